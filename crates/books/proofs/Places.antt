@@ -16,6 +16,17 @@ module _ {X : Type 0} where
   some-below (x ∷ xs) zero h e = let z : _≡_ {A = ℕ} 0 1 = cc in omega arith
   some-below (x ∷ xs) (suc i) h e = some-below xs i (omega arith) e
 
+  -- a place with an entry is below the count
+  pub below-some : (xs : List X) (i : ℕ) (x : X) → Some x ≡ nth xs i → i < length xs
+  below-some [] i x e = let z : _≡_ {A = ℕ} 0 1 = cc in omega arith
+  below-some (y ∷ xs) zero x e = omega arith
+  below-some (y ∷ xs) (suc i) x e = let h : i < length xs = below-some xs i x e in omega arith
+
+  -- the entry that was put last
+  pub nth-push : (xs : List X) (x : X) → nth (xs ++ (x ∷ [])) (length xs) ≡ Some x
+  nth-push [] x = refl
+  nth-push (y ∷ xs) x = nth-push xs x
+
   take-suc : (xs : List X) (i : ℕ) (x : X) → Some x ≡ nth xs i → take (suc i) xs ≡ take i xs ++ (x ∷ [])
   take-suc [] i x e = let z : _≡_ {A = ℕ} 0 1 = cc in absurd (omega arith)
   take-suc (y ∷ xs) zero x e = let q : y ≡ x = cc in ap (λ (z : X). z ∷ []) q

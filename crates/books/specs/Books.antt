@@ -2,7 +2,7 @@
 use mathlib.Core.Path.{_≡_}
 use mathlib.Core.List.{List, [], _∷_, _++_}
 use Prim.Native.Nat.{ℕ, _<_}
-use lib.ListN.{length}
+use lib.ListN.{length, set}
 use Rattle.std.specs.declared.option.Option.{Option}
 use Rattle.std.specs.declared.option.Option.the-variants.{Some, None}
 use Rattle.std.specs.declared.result.Result.{Result}
@@ -37,3 +37,8 @@ pub record NotPosted (list : List PostingRow) (largest : ℕ) (fault : Fault) (n
 abbrev pub Posted : List PostingRow → ℕ → PostingRow → Result ℕ Fault → List PostingRow → Type 0
 Posted list largest row (Ok place) new = Posts list largest row place new
 Posted list largest row (Err fault) new = NotPosted list largest fault new
+
+-- the host's rows once a row is posted on them: it stands at the place that is answered, and no other slot changes
+abbrev pub written : List PostingRow → PostingRow → Result ℕ Fault → List PostingRow
+written rows row (Ok place) = set rows place row
+written rows row (Err fault) = rows

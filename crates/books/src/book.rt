@@ -39,3 +39,24 @@ pub trait OpenBook: Book {
         ensures cases { λ r. ⌜ Posted (Self·Book .list (now (self .entry))) (Self·Book .largest (now (self .entry))) (posting .row) r (Self·Book .list (now (self .exit))) ⌝ }
         ensures same { λ _. ⌜ Self·Book .largest (now (self .exit)) ≡ Self·Book .largest (now (self .entry)) ⌝ };
 }
+
+/// A book that is lent is the book.
+pub impl<'b, B: Book> Book for &'b mut B as LentBook {
+    ghost list = { λ b. B·Book .list (now b) };
+
+    ghost largest = { λ b. B·Book .largest (now b) };
+
+    fn count(&self) -> usize {
+        (**self).count()
+    }
+
+    fn at(&self, place: usize) -> Option<Posting> {
+        (**self).at(place)
+    }
+}
+
+pub impl<'b, B: OpenBook> OpenBook for &'b mut B as LentOpen {
+    fn post(&mut self, posting: Posting) -> Result<usize, Fault> {
+        (**self).post(posting)
+    }
+}

@@ -56,6 +56,13 @@ impl<'a, T: Copy> Roll<'a, T> {
         Some(place)
     }
 
+    /// The host's slots as they stand, those past the length with them.
+    pub fn slots(&self) -> &[T]
+        ensures value { λ r. ⌜ now r ≡ slotsOf (now (self .entry)) ⌝ }
+    {
+        &*self.slots
+    }
+
     /// Ends the roll and hands the host's slots back.
     pub fn end(self) -> &'a mut [T]
         ensures value { λ r. ⌜ now r ≡ now (self .entry .slots) ⌝ }

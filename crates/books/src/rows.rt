@@ -12,6 +12,7 @@ ghost use mathlib.Core.List.{[]};
 ghost use denote.Ref.{now, name};
 ghost use lib.ListN.{length};
 ghost use Rattle.postings.specs.Table.{allLawful};
+ghost use Rattle.books.specs.Books.{Posted, written};
 ghost use Rattle.books.specs.Rolls.{entries, slots};
 
 /// A roll of lawful rows. It makes a posting anew from its row, with its checks, when it is asked.
@@ -31,6 +32,21 @@ impl<'a> RowsBook<'a> {
         RowsBook {
             roll: Roll::new(rows),
         }
+    }
+
+    /// The host's rows as they stand, those past the count with them.
+    pub fn rows(&self) -> &[PostingRow]
+        ensures value { λ r. ⌜ now r ≡ slots (now (self .entry) .roll) ⌝ }
+    {
+        self.roll.slots()
+    }
+
+    /// Ends the book and hands the host's rows back.
+    pub fn end(self) -> &'a mut [PostingRow]
+        ensures value { λ r. ⌜ now r ≡ now (self .entry .roll .slots) ⌝ }
+        ensures same { λ r. ⌜ name r ≡ name (self .entry .roll .slots) ⌝ }
+    {
+        self.roll.end()
     }
 }
 
@@ -54,7 +70,12 @@ pub impl<'a> Book for RowsBook<'a> as RowsBookBook {
 }
 
 pub impl<'a> OpenBook for RowsBook<'a> as RowsBookOpen {
-    fn post(&mut self, posting: Posting) -> Result<usize, Fault> {
+    fn post(&mut self, posting: Posting) -> Result<usize, Fault>
+        ensures cases { λ r. ⌜ Posted (entries (now (self .entry) .roll)) (length (slots (now (self .entry) .roll))) (posting .row) r (entries (now (self .exit) .roll)) ⌝ }
+        ensures same { λ _. ⌜ length (slots (now (self .exit) .roll)) ≡ length (slots (now (self .entry) .roll)) ⌝ }
+        ensures slots { λ r. ⌜ slots (now (self .exit) .roll) ≡ written (slots (now (self .entry) .roll)) (posting .row) r ⌝ }
+        ensures memory { λ _. ⌜ name (now (self .exit) .roll .slots) ≡ name (now (self .entry) .roll .slots) ⌝ }
+    {
         match self.roll.push(posting.row()) {
             Some(place) => Ok(place),
             None => Err(Fault::BookFull),

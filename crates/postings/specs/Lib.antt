@@ -1,3 +1,4 @@
 pub mod Table
 pub mod Bounds
 pub mod Making
+pub mod Volumes

@@ -1,1 +1,6 @@
-pub mod Writing
+pub mod Grid
+pub mod Totals
+pub mod Day
+pub mod Sheets
+pub mod Admission
+pub mod Reckoning

@@ -1,11 +1,16 @@
 //! The sheet of a day, reckoned from any book under any sharing rule.
+mod admission;
 mod bills;
-mod exact;
+mod firsts;
+mod imbalances;
 mod lines;
 mod prices;
-mod row;
+mod reckoned;
+mod shares;
 mod sheet;
-mod tally;
 
-pub use row::SheetRow;
-pub use sheet::reckon;
+pub use admission::check_members;
+pub use admission::check_postings;
+pub use admission::check_prices;
+pub use admission::check_volume;
+pub use reckoned::reckon;

@@ -2,14 +2,15 @@
 
 use super::members::members_named;
 use faults::Fault;
+use formulas::SheetRow;
 use images::ImageBook;
 use images::ImageBookBook;
 use images::check;
 use images::prices;
-use reckoning::SheetRow;
 use reckoning::reckon;
 use sharing::SharingRule;
 use std::fmt;
+ghost use Rattle.sheets.specs.Sheets.{OfImage};
 
 /// A day's sheet: the rule's letter, the members, their rows and the pool's bill.
 #[derive(Clone, Copy)]
@@ -22,18 +23,26 @@ pub struct Sheet {
 
 impl Sheet {
     /// The sheet of a day image, or the fault for which there is none.
-    pub fn of_image<R: SharingRule>(rule: &R, image: &[u8]) -> Result<Sheet, Fault> {
-        check(image)?;
+    pub fn of_image<R: SharingRule>(rule: &R, image: &[u8]) -> Result<Sheet, Fault>
+        ensures cases { λ r. ⌜ OfImage (R·SharingRule .parts) (R·SharingRule .letter) (now (image .entry)) r ⌝ }
+    {
+        match check(image) {
+            Ok(()) => {}
+            Err(fault) => return Err(fault),
+        }
         let book = ImageBook::open(image);
         let members = members_named(&book);
+        let prices = prices(image);
         let mut rows = [SheetRow::NIL; 64];
-        let bill = reckon(&book, rule, &prices(image), members, &mut rows)?;
-        Ok(Sheet {
-            letter: rule.mark(),
-            members,
-            rows,
-            bill,
-        })
+        match reckon(&book, rule, &prices, members, &mut rows) {
+            Ok(bill) => Ok(Sheet {
+                letter: rule.mark(),
+                members,
+                rows,
+                bill,
+            }),
+            Err(fault) => Err(fault),
+        }
     }
 }
 

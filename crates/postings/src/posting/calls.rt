@@ -8,6 +8,7 @@ ghost use mathlib.Core.Path.{_≡_};
 ghost use Rattle.postings.specs.Table.{code};
 ghost use Rattle.postings.specs.Bounds.{Bounds};
 ghost use Rattle.postings.specs.Making.{Made};
+ghost use Rattle.postings.specs.Volumes.{volumeAllowed, atVolume};
 
 impl Posting {
     /// The posting of a row, or the first column of the table that the row breaks.
@@ -53,5 +54,24 @@ impl Posting {
             // a posting's kind is one of the table's
             None => unreachable(),
         }
+    }
+
+    /// Whether the posting's kind allows the volume.
+    pub fn allows_volume(&self, volume: u32) -> bool
+        ensures value { λ r. ⌜ r ≡ volumeAllowed (now (self .entry) .row) volume ⌝ }
+    {
+        self.kind().limits().allow_volume(volume)
+    }
+
+    /// The posting at another volume where its kind allows it, or else as it is.
+    pub fn at_volume(self, volume: u32) -> Posting
+        ensures value { λ r. ⌜ r .row ≡ atVolume (self .row) volume ⌝ }
+    {
+        if !self.allows_volume(volume) {
+            return self;
+        }
+        let mut row = self.row;
+        row.volume = volume;
+        Posting { row }
     }
 }

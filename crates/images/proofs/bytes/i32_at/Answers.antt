@@ -1,16 +1,10 @@
 -- The sign is read as two's complement has it.
-use Prim.Native.Nat.{ℕ, _<_, _^_}
-use native.Mathlib.Omega.{arith}
-use mathlib.Core.Path.{_≡_, _∙_, ap}
+use mathlib.Core.Path.{_∙_, ap}
 use mir.Syntax.{w32}
-use mir.Val.{toZ}
-use Rattle.std.proofs.shelf.Signed.{ints, toZ-ofZ}
-use Rattle.std.proofs.shelf.Ways.{tells}
+use Rattle.std.proofs.shelf.Signed.{toZ-ofZ}
 use Rattle.images.specs.Reading.{signed, i32At}
+use Rattle.images.proofs.Numbers.{signed-is}
 use Rattle.images.proofs.bytes.i32_at.Needs as need
-
-signed-is : (n : ℕ) → n < 2 ^ 32 → toZ w32 n ≡ signed n
-signed-is n h = grind (arith, ints, tells)
 
 pub returns : need.returns
 unfolding i32At

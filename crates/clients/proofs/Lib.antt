@@ -1,0 +1,2 @@
+mod Correcting
+mod Counting

@@ -1,0 +1,10 @@
+pub mod Bits
+pub mod Counted
+pub mod Charges
+pub mod Shareable
+pub mod DayLimits
+pub mod DayBills
+pub mod DayShares
+pub mod RowTotals
+pub mod DayRows
+pub mod Members
