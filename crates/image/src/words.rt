@@ -18,7 +18,7 @@ const NO_LABEL: u8 = 255;
 const NO_MEMBER: u8 = 255;
 
 /// The row of a line: kind, member, first hour, last hour, volume, price, label.
-pub fn row_of(line: &str) -> PostingRow {
+pub(crate) fn row_of(line: &str) -> PostingRow {
     let mut words = line.split_ascii_whitespace();
     let kind = kind_of(words.next());
     let member = small(words.next(), NO_MEMBER);
@@ -43,7 +43,7 @@ pub fn row_of(line: &str) -> PostingRow {
 }
 
 /// A market price.
-pub fn price_of(word: &str) -> u32 {
+pub(crate) fn price_of(word: &str) -> u32 {
     match word.parse::<u32>() {
         Ok(price) => price,
         Err(_) => u32::MAX,
