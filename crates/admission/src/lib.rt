@@ -1,4 +1,6 @@
 //! The limits of a day, each looked at by a function of its own.
+#![tactic(auto)]
+
 mod admission;
 
 pub use admission::{

@@ -1,4 +1,6 @@
 //! Rolls of entries in the host's memory, and the books that hold postings.
+#![tactic(auto)]
+
 pub mod book;
 pub mod corrected;
 mod corrections;

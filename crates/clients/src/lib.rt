@@ -1,4 +1,6 @@
 //! What a host can prove of rolls, books, layers and days from their contracts alone.
+#![tactic(auto)]
+
 pub mod any_book;
 pub mod days;
 pub mod layers;

@@ -1,4 +1,5 @@
 //! Prints the sheets of the days that its arguments name, each from NAME.img, under rule R and under rule L.
+#![tactic(auto)]
 
 use sharing::{RuleL, RuleR, SharingRule};
 use sheets::Sheet;

@@ -1,4 +1,6 @@
 //! Every refusal of the library, with the number that callers know it by.
+#![tactic(auto)]
+
 mod fault;
 mod making;
 mod words;

@@ -1,5 +1,7 @@
 //! What a settlement sheet is, step by step, and the laws of the pool: `specs/` has the definitions and the statements,
 //! and each function below has a statement as its contract.
+#![tactic(auto)]
+
 mod row;
 
 ghost use Rattle.formulas.specs.Laws.{PoolBill, TotalsAddUp, SavingNotBelowNil, NobodyWorseOff, LinesShared, GapsByFormula, PricesByRule, NoSharingRefused, FiguresFit};

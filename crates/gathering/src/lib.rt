@@ -1,4 +1,6 @@
 //! What the postings of a day come to: each figure that is a sum over the book's list.
+#![tactic(auto)]
+
 mod amounts;
 mod figure;
 mod figures;

@@ -11,6 +11,8 @@
 //! Where a line is refused, `LINE k REFUSED n` comes in place of the image, with k counted from 1, and the reason in
 //! words on standard error. A text that ends before it has 24 prices is refused at the line past its last, and one of
 //! more than 1,048,576 bytes at the line in which it is cut.
+#![tactic(auto)]
+
 mod day;
 mod words;
 

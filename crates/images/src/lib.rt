@@ -1,4 +1,6 @@
 //! Day images: a day's prices and postings as bytes.
+#![tactic(auto)]
+
 mod bytes;
 mod checks;
 mod copying;

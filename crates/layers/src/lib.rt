@@ -1,4 +1,6 @@
 //! The correction layer over any book.
+#![tactic(auto)]
+
 pub mod corrected;
 mod corrections;
 

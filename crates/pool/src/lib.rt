@@ -1,4 +1,6 @@
 //! The pool clause: what holds over every run of calls.
+#![tactic(auto)]
+
 ghost use Rattle.pool.specs.Clause.{Clause};
 ghost use Rattle.pool.specs.Progress.{CallsAnswer, RunsGoOn};
 

@@ -1,4 +1,6 @@
 //! Postings, and the books that hold them.
+#![tactic(auto)]
+
 pub mod kind;
 pub mod limits;
 pub mod posting;

@@ -1,4 +1,6 @@
 //! The sheet of a day, reckoned from any book under any sharing rule.
+#![tactic(auto)]
+
 mod admission;
 mod bills;
 mod firsts;

@@ -1,4 +1,6 @@
 //! Rolls of entries in the host's memory.
+#![tactic(auto)]
+
 pub mod roll;
 
 pub use roll::Roll;

@@ -1,4 +1,6 @@
 //! Settlement: a set of accounts, the claims that it hands out, and the closing of a day.
+#![tactic(auto)]
+
 mod account;
 mod closing;
 mod day;

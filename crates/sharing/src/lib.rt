@@ -1,4 +1,6 @@
 //! Sharing an amount of kuruş over members by their weights.
+#![tactic(auto)]
+
 mod admission;
 mod exact;
 mod fair;

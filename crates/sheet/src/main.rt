@@ -1,4 +1,5 @@
 //! Reads a day image from standard input and prints the sheet of that day under rule R, or the number of its refusal.
+#![tactic(auto)]
 
 use sharing::RuleR;
 use sheets::Sheet;

@@ -1,4 +1,6 @@
 //! From a day image to its sheet, and the sheet's text.
+#![tactic(auto)]
+
 mod members;
 mod text;
 
