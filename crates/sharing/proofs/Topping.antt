@@ -4,7 +4,7 @@ use native.Mathlib.Nat.{div-zero}
 use lib.Signed.{lt_z}
 use Rattle.std.proofs.lemmas.List.FromFn.{fill_by_all}
 use Rattle.std.proofs.lemmas.List.{get_or-map, length-map}
-use Rattle.std.proofs.lemmas.List.Sums.{sum_map}
+use Rattle.std.proofs.lemmas.List.Sums.{sum-map}
 use Rattle.std.proofs.lemmas.Int.{ints}
 use Rattle.std.proofs.lemmas.Bool.{cases_lt, le-ltb}
 use Rattle.sharing.specs.Inside.{Weighed}
@@ -32,7 +32,7 @@ module _ (s : ℤ) (ws : List ℕ) (total : ℕ) (xs : List ℤ) (m : Weighed s 
   -- they add up to all remainders
   all_rests : sum_by nat_abs xs ≡ sum_by (remainder s ws) (members ws)
   all_rests =
-      sym (sum_map nat_abs xs) ∙ ap sum (fill_by_all (remainder s ws) (map nat_abs xs) (length ws) 0 (length-map xs nat_abs ∙ sym same) (λ k h. get_or-map nat_abs xs k (pos 0) 0 (omega arith) ∙ ap nat_abs (rests k (omega arith)))) ∙ sum_map (remainder s ws) (members ws)
+      sym (sum-map nat_abs xs) ∙ ap sum (fill_by_all (remainder s ws) (map nat_abs xs) (length ws) 0 (length-map xs nat_abs ∙ sym same) (λ k h. get_or-map nat_abs xs k (pos 0) 0 (omega arith) ∙ ap nat_abs (rests k (omega arith)))) ∙ sum-map (remainder s ws) (members ws)
 
   -- and make up W as often as kuruş are left over
   pub spare_is : sum_by nat_abs xs / total ≡ left_over s ws

@@ -13,8 +13,8 @@ use Rattle.sharing.proofs.Parts.{small_at, read_weighed}
 use Rattle.sharing.proofs.rule_l.write_parts.Goals as goal
 use Rattle.sharing.proofs.rule_l.write_parts.Goals.{then-out-k-lt0, else-out-k-lt0}
 
-pub rounded-down-low-requires : goal.rounded-down-low-requires
-rounded-down-low-requires c = record {
+pub rounded_down-low-requires : goal.rounded_down-low-requires
+rounded_down-low-requires c = record {
   fits = small_at _ c.args.weights.now c.loop-k.k c.args.total (read_weighed _ _ _ _ (to_z-of_z w64 c.args.amount c.ranges.amount) c.requires.fits) c.loop-k-test.true;
 }
 
@@ -25,18 +25,18 @@ low_read z ws k total r f e v = to_z-of_z w64 r f ∙ low_here z ws k total r e 
 one_more_fits : (x l : ℤ) → x ≡ l → nat_abs l ≤ limit → SFits w64 (x +ℤ pos 1)
 one_more_fits x l e h = omega (arith, ints)
 
-pub overflow-add-out : goal.overflow-add-out
-overflow-add-out c =
+pub overflow_add-out : goal.overflow_add-out
+overflow_add-out c =
     let z = to_z w64 (of_z w64 c.args.amount) in
     let m = small_at z c.args.weights.now c.loop-k.k c.args.total (read_weighed _ _ _ _ (to_z-of_z w64 c.args.amount c.ranges.amount) c.requires.fits) c.loop-k-test.true in
-    one_more_fits _ _ (low_read z c.args.weights.now c.loop-k.k c.args.total _ (record { sfits = c.rounded-down-low.type-inv }) c.requires.fits.sum_is c.rounded-down-low.ensures.value) (low_size z c.args.weights.now c.loop-k.k c.args.total m)
+    one_more_fits _ _ (low_read z c.args.weights.now c.loop-k.k c.args.total _ (record { sfits = c.rounded_down-low.type_inv }) c.requires.fits.sum_is c.rounded_down-low.ensures.value) (low_size z c.args.weights.now c.loop-k.k c.args.total m)
 
 -- the part that is written
 written : (c : goal.Joined-out-k-lt0) → c.if-out-k-lt0.out ≡ topped (to_z w64 (of_z w64 c.args.amount)) c.args.weights.now c.args.out.now c.loop-k.k
 written c =
     let z = to_z w64 (of_z w64 c.args.amount) in
     let m = small_at z c.args.weights.now c.loop-k.k c.args.total (read_weighed _ _ _ _ (to_z-of_z w64 c.args.amount c.ranges.amount) c.requires.fits) c.loop-k-test.true in
-    let l = low_read z c.args.weights.now c.loop-k.k c.args.total _ (record { sfits = c.rounded-down-low.type-inv }) c.requires.fits.sum_is c.rounded-down-low.ensures.value in
+    let l = low_read z c.args.weights.now c.loop-k.k c.args.total _ (record { sfits = c.rounded_down-low.type_inv }) c.requires.fits.sum_is c.rounded_down-low.ensures.value in
     let f : SFits w64 (get_or c.loop-k.out c.loop-k.k (pos 0)) = search rules in
     let t = ap (λ (x : ℤ). lt_z x (pos 0)) (sym (to_z-of_z w64 (get_or c.loop-k.out c.loop-k.k (pos 0)) f ∙ c.loop-k.invariant.1 c.loop-k.k (omega arith))) in
     sym c.if-out-k-lt0.out-is ∙ elim c.if-out-k-lt0.branch [

@@ -15,10 +15,10 @@ remainder-requires c = record {
 rest_is : (c : goal.After-remainder) → c.remainder.result ≡ remainder (to_z w64 (of_z w64 c.args.amount)) c.args.weights.now c.loop-k.k
 rest_is c = rest_here _ c.args.weights.now c.loop-k.k c.args.total _ c.requires.fits.sum_is c.remainder.ensures.value
 
-pub overflow-cast-out : goal.overflow-cast-out
-overflow-cast-out c = omega (arith, ints, rest_is c, rest_le (to_z w64 (of_z w64 c.args.amount)) c.args.weights.now c.loop-k.k c.loop-k-test.true, c.requires.fits.shareable.weighed)
+pub overflow_cast-out : goal.overflow_cast-out
+overflow_cast-out c = omega (arith, ints, rest_is c, rest_le (to_z w64 (of_z w64 c.args.amount)) c.args.weights.now c.loop-k.k c.loop-k-test.true, c.requires.fits.shareable.weighed)
 
 pub loop-k-preserved : goal.loop-k-preserved
 loop-k-preserved c j h =
-    ap (λ (v : ℤ). get_or (set c.loop-k.out c.loop-k.k v) j (pos 0)) (to_z_pos w64 c.remainder.result (omega (arith, ints, overflow-cast-out c)) ∙ ap pos (rest_is c))
+    ap (λ (v : ℤ). get_or (set c.loop-k.out c.loop-k.k v) j (pos 0)) (to_z_pos w64 c.remainder.result (omega (arith, ints, overflow_cast-out c)) ∙ ap pos (rest_is c))
     ∙ fill_by_more (λ i. pos (remainder _ c.args.weights.now i)) c.loop-k.out c.loop-k.k (pos 0) (omega arith) c.loop-k.invariant j h

@@ -6,34 +6,34 @@ use Rattle.sharing.proofs.Parts.{weighed_of, met_read}
 use Rattle.sharing.proofs.Topping.{from_nil, remainders, spare_is, spare_le, topped_is}
 use Rattle.sharing.proofs.rule_l.RuleLSharingRule.share.Goals as goal
 
-pub left-over-spare-requires : goal.left-over-spare-requires
-left-over-spare-requires c =
-    let e = c.in-ok-total.ensures.cases in
-    record { within = remainders _ c.args.weights.now c.in-ok-total.total c.write-remainders.new.out (weighed_of _ _ _ _ e) (omega (arith, e.met.0)) c.write-remainders.ensures.places }
+pub left_over-spare-requires : goal.left_over-spare-requires
+left_over-spare-requires c =
+    let e = c.in_ok-total.ensures.cases in
+    record { within = remainders _ c.args.weights.now c.in_ok-total.total c.write_remainders.new.out (weighed_of _ _ _ _ e) (omega (arith, e.met.0)) c.write_remainders.ensures.places }
 
-pub mark-first-requires : goal.mark-first-requires
-mark-first-requires c =
-    let e = c.in-ok-total.ensures.cases in
-    let same : length c.args.weights.now ≡ length c.write-remainders.new.out = omega (arith, e.met.0) in
-    let spare = c.left-over-spare.ensures.value ∙ spare_is _ c.args.weights.now c.in-ok-total.total c.write-remainders.new.out (weighed_of _ _ _ _ e) same c.write-remainders.ensures.places in
+pub mark_first-requires : goal.mark_first-requires
+mark_first-requires c =
+    let e = c.in_ok-total.ensures.cases in
+    let same : length c.args.weights.now ≡ length c.write_remainders.new.out = omega (arith, e.met.0) in
+    let spare = c.left_over-spare.ensures.value ∙ spare_is _ c.args.weights.now c.in_ok-total.total c.write_remainders.new.out (weighed_of _ _ _ _ e) same c.write_remainders.ensures.places in
     record {
-      within = omega (arith, spare, spare_le _ c.args.weights.now c.in-ok-total.total c.write-remainders.new.out (weighed_of _ _ _ _ e) same c.write-remainders.ensures.places);
-      low-bound = from_nil _ c.args.weights.now c.in-ok-total.total c.write-remainders.new.out (weighed_of _ _ _ _ e) same c.write-remainders.ensures.places;
+      within = omega (arith, spare, spare_le _ c.args.weights.now c.in_ok-total.total c.write_remainders.new.out (weighed_of _ _ _ _ e) same c.write_remainders.ensures.places);
+      low_bound = from_nil _ c.args.weights.now c.in_ok-total.total c.write_remainders.new.out (weighed_of _ _ _ _ e) same c.write_remainders.ensures.places;
     }
 
 pub returns : goal.returns
 returns c =
-    let e = c.in-ok-total.ensures.cases in
+    let e = c.in_ok-total.ensures.cases in
     let z = to_z w64 (of_z w64 c.args.amount) in
     let s = to_z-of_z w64 c.args.amount c.ranges.amount in
-    let same : length c.args.weights.now ≡ length c.write-remainders.new.out = omega (arith, e.met.0) in
-    let spare = c.left-over-spare.ensures.value ∙ spare_is z c.args.weights.now c.in-ok-total.total c.write-remainders.new.out (weighed_of _ _ _ _ e) same c.write-remainders.ensures.places in
-    let part : (k : ℕ) → k < length c.args.weights.now → get_or c.write-parts.new.out k (pos 0) ≡ part_l z c.args.weights.now k = λ k h.
-    c.write-parts.ensures.places k (omega (arith, e.met.0))
-    ∙ topped_is z c.args.weights.now c.in-ok-total.total c.write-remainders.new.out (weighed_of _ _ _ _ e) same c.write-remainders.ensures.places _ c.mark-first.new.out k (omega arith) spare (c.mark-first.ensures.places k (omega arith)) in
+    let same : length c.args.weights.now ≡ length c.write_remainders.new.out = omega (arith, e.met.0) in
+    let spare = c.left_over-spare.ensures.value ∙ spare_is z c.args.weights.now c.in_ok-total.total c.write_remainders.new.out (weighed_of _ _ _ _ e) same c.write_remainders.ensures.places in
+    let part : (k : ℕ) → k < length c.args.weights.now → get_or c.write_parts.new.out k (pos 0) ≡ part_l z c.args.weights.now k = λ k h.
+    c.write_parts.ensures.places k (omega (arith, e.met.0))
+    ∙ topped_is z c.args.weights.now c.in_ok-total.total c.write_remainders.new.out (weighed_of _ _ _ _ e) same c.write_remainders.ensures.places _ c.mark_first.new.out k (omega arith) spare (c.mark_first.ensures.places k (omega arith)) in
     record {
       cases = record {
         met = met_read _ _ c.args.weights.now _ s e.met;
-        after = fill_by_all (part_l z c.args.weights.now) c.write-parts.new.out (length c.args.weights.now) (pos 0) (omega (arith, e.met.0)) part ∙ ap (λ (x : ℤ). parts_l x c.args.weights.now) s;
+        after = fill_by_all (part_l z c.args.weights.now) c.write_parts.new.out (length c.args.weights.now) (pos 0) (omega (arith, e.met.0)) part ∙ ap (λ (x : ℤ). parts_l x c.args.weights.now) s;
       };
     }

@@ -15,39 +15,39 @@ loop-k-init c = (refl, sym (first _ _), λ j h. absurd (omega arith))
 within : (ws : List ℕ) (k n : ℕ) → k < length ws → n ≡ sum (take k ws) → n + get_or ws k 0 ≤ sum ws
 within ws k n h e = omega (arith, sum_by_more (λ x. x) ws k 0 h, sum_by-take-le (λ x. x) ws (k + 1))
 
-pub overflow-add-running : goal.overflow-add-running
-overflow-add-running c =
+pub overflow_add-running : goal.overflow_add-running
+overflow_add-running c =
     let w = within c.args.weights.now c.loop-k.k c.loop-k.running c.loop-k-test.true c.loop-k.invariant.0 in
-    omega (arith, c.in-ok-total.ensures.cases.met.1.0.weighed)
+    omega (arith, c.in_ok-total.ensures.cases.met.1.0.weighed)
 
-pub rounded-down-reached-requires : goal.rounded-down-reached-requires
-rounded-down-reached-requires c =
+pub rounded_down-reached-requires : goal.rounded_down-reached-requires
+rounded_down-reached-requires c =
     let w = within c.args.weights.now c.loop-k.k c.loop-k.running c.loop-k-test.true c.loop-k.invariant.0 in
-    record { fits = small_of _ c.args.weights.now _ c.in-ok-total.total (weighed_of _ _ _ _ c.in-ok-total.ensures.cases) w }
+    record { fits = small_of _ c.args.weights.now _ c.in_ok-total.total (weighed_of _ _ _ _ c.in_ok-total.ensures.cases) w }
 
 -- what the code has in `reached`
-reached_is : (c : goal.After-rounded-down-reached) → to_z w64 (of_z w64 c.rounded-down-reached.result) ≡ reached (to_z w64 (of_z w64 c.args.amount)) c.args.weights.now (c.loop-k.k + 1)
+reached_is : (c : goal.After-rounded_down-reached) → to_z w64 (of_z w64 c.rounded_down-reached.result) ≡ reached (to_z w64 (of_z w64 c.args.amount)) c.args.weights.now (c.loop-k.k + 1)
 reached_is c =
-    to_z-of_z w64 c.rounded-down-reached.result (record { sfits = c.rounded-down-reached.type-inv })
-    ∙ reached_here _ c.args.weights.now c.loop-k.k c.loop-k.running c.in-ok-total.total _ c.loop-k-test.true c.in-ok-total.ensures.cases.sum_is c.loop-k.invariant.0 c.rounded-down-reached.ensures.value
+    to_z-of_z w64 c.rounded_down-reached.result (record { sfits = c.rounded_down-reached.ok })
+    ∙ reached_here _ c.args.weights.now c.loop-k.k c.loop-k.running c.in_ok-total.total _ c.loop-k-test.true c.in_ok-total.ensures.cases.sum_is c.loop-k.invariant.0 c.rounded_down-reached.ensures.value
 
-pub overflow-sub-out : goal.overflow-sub-out
-overflow-sub-out c =
+pub overflow_sub-out : goal.overflow_sub-out
+overflow_sub-out c =
     subst (SFits w64) (get_or-map-range_with_len (part_r _ c.args.weights.now) 0 (length c.args.weights.now) c.loop-k.k c.loop-k.k (pos 0) c.loop-k-test.true (omega arith) ∙ sym (ap₂ ◌-ℤ◌ (reached_is c) c.loop-k.invariant.1))
-    (part_fits parts_r law_r _ c.args.weights.now c.loop-k.k c.in-ok-total.total (weighed_of _ _ _ _ c.in-ok-total.ensures.cases) c.loop-k-test.true)
+    (part_fits parts_r law_r _ c.args.weights.now c.loop-k.k c.in_ok-total.total (weighed_of _ _ _ _ c.in_ok-total.ensures.cases) c.loop-k-test.true)
 
 pub loop-k-preserved : goal.loop-k-preserved
 loop-k-preserved c = (
   omega (arith, sum_by_more (λ x. x) c.args.weights.now c.loop-k.k 0 c.loop-k-test.true),
   reached_is c,
   λ j h.
-      ap (λ (v : ℤ). get_or (set c.loop-k.out c.loop-k.k v) j (pos 0)) (to_z-of_z w64 _ (overflow-sub-out c) ∙ ap₂ ◌-ℤ◌ (reached_is c) c.loop-k.invariant.1)
-      ∙ fill_by_more (part_r _ c.args.weights.now) c.loop-k.out c.loop-k.k (pos 0) (omega (arith, c.in-ok-total.ensures.cases.met.0)) c.loop-k.invariant.2 j h,
+      ap (λ (v : ℤ). get_or (set c.loop-k.out c.loop-k.k v) j (pos 0)) (to_z-of_z w64 _ (overflow_sub-out c) ∙ ap₂ ◌-ℤ◌ (reached_is c) c.loop-k.invariant.1)
+      ∙ fill_by_more (part_r _ c.args.weights.now) c.loop-k.out c.loop-k.k (pos 0) (omega (arith, c.in_ok-total.ensures.cases.met.0)) c.loop-k.invariant.2 j h,
 )
 
 pub returns : goal.returns
 returns c =
-    let e = c.in-ok-total.ensures.cases in
+    let e = c.in_ok-total.ensures.cases in
     let s = to_z-of_z w64 c.args.amount c.ranges.amount in
     record {
       cases = record {
