@@ -28,7 +28,7 @@ rounded_down-reached-requires c =
 -- what the code has in `reached`
 reached_is : (c : goal.After-rounded_down-reached) → to_z w64 (of_z w64 c.rounded_down-reached.result) ≡ reached (to_z w64 (of_z w64 c.args.amount)) c.args.weights.now (c.loop-k.k + 1)
 reached_is c =
-    to_z-of_z w64 c.rounded_down-reached.result (record { sfits = c.rounded_down-reached.ok })
+    to_z-of_z w64 c.rounded_down-reached.result (record { sfits = c.rounded_down-reached.type_inv })
     ∙ reached_here _ c.args.weights.now c.loop-k.k c.loop-k.running c.in_ok-total.total _ c.loop-k-test.true c.in_ok-total.ensures.cases.sum_is c.loop-k.invariant.0 c.rounded_down-reached.ensures.value
 
 pub overflow_sub-out : goal.overflow_sub-out
