@@ -1,5 +1,5 @@
 -- Sums of naturals, and of whole numbers against them: order, scale and exchange.
-use Rattle.std.proofs.Common.{◌≡◌, ℕ, ◌+◌, ◌*◌, ◌≤◌, Bool, true, false, cond, ◌&&◌, ◌||◌, List, [], ◌∷◌, length, ℤ, pos, nat_abs, All, sum_by, sym, refl, ap, ◌∙◌, mul-add, arith}
+use Rattle.std.proofs.Common.{◌≡◌, ℕ, suc, ◌+◌, ◌*◌, ◌≤◌, Bool, true, false, cond, ◌&&◌, ◌||◌, List, [], ◌∷◌, length, ℤ, pos, nat_abs, All, sum_by, sym, refl, ap, ◌∙◌, mul-add, arith}
 use Rattle.std.proofs.lemmas.List.Sums.{sum_by-cons}
 use Rattle.integers.specs.Sums.{int_sum_by}
 use Rattle.integers.proofs.Size.{size_plus}
@@ -21,7 +21,7 @@ module _ {X : Type 0} where
   weighed P f w c h [] a = omega arith
   weighed P f w c h (x ∷ xs) a =
       let k : c * sum_by w (x ∷ xs) ≡ c * (w x + sum_by w xs) = ap (λ (t : ℕ). c * t) (sum_by-cons w x xs) in
-      omega (arith, weighed P f w c h xs a.1, h x a.0, mul-add c (w x) (sum_by w xs), size_plus (f x) (int_sum_by f xs))
+      omega (arith, weighed P f w c h xs (λ k d lt. a (suc k) d (omega arith)), h x (a 0 x (omega arith)), mul-add c (w x) (sum_by w xs), size_plus (f x) (int_sum_by f xs))
 
   pub weighed_all : (f : X → ℤ) (w : X → ℕ) (c : ℕ) → ((x : X) → nat_abs (f x) ≤ c * w x) → (xs : List X) → nat_abs (int_sum_by f xs) ≤ c * sum_by w xs
   weighed_all f w c h [] = omega arith
