@@ -1,5 +1,5 @@
 -- The bounds of every lawful row, from the table.
-use Rattle.std.proofs.Common.{◌≡◌, ℕ, ◌+◌, ◌-◌, ◌<◌, ◌≤◌, Bool, true, ◌&&◌, ltb, leb, ℤ, pos, negsuc, nat_abs, ◌≤ℤ◌, Some, None, Option, refl, arith}
+use Rattle.std.proofs.Common.{◌≡◌, ℕ, ◌≤◌, Bool, true, ◌&&◌, leb, ℤ, pos, negsuc, nat_abs, ◌≤ℤ◌, Some, None, Option, refl, arith}
 use lib.Signed.{le_z}
 use Rattle.std.proofs.lemmas.Int.{ints}
 use Rattle.std.proofs.lemmas.Bool.{and_parts, leb-true, ltb-true}
@@ -7,7 +7,7 @@ use Rattle.postings.specs.declared.kind.Kind.{Kind}
 use Rattle.postings.specs.declared.kind.Kind.TheVariants.{Injection, Withdrawal, HourlyPurchase, HourlySale, BlockPurchase, BlockSale, FlexibleSale, Up, Down}
 use Rattle.postings.specs.declared.limits.Limits.{Limits}
 use Rattle.postings.specs.declared.row.PostingRow.{PostingRow}
-use Rattle.postings.specs.Table.{lawful, kind_of, table, allowed, limits_of, hours_within, volume_within, price_within, label_within}
+use Rattle.postings.specs.Table.{lawful, kind_of, allowed, limits_of, hours_within, volume_within, price_within}
 use Rattle.postings.specs.Bounds.{Bounds}
 use Rattle.postings.proofs.Lawful.{lawful_met}
 

@@ -1,6 +1,6 @@
 -- Kinds and their codes determine each other.
-use Rattle.std.proofs.Common.{◌≡◌, ℕ, Bool, true, false, cond, eqb, List, [], ◌∷◌, Some, None, Option, sym, refl, ⊎_elim, arith}
-use Rattle.std.proofs.lemmas.Bool.{cases_Bool, eqb-true}
+use Rattle.std.proofs.Common.{◌≡◌, ℕ, Bool, true, false, cond, eqb, List, [], ◌∷◌, Some, sym, refl, arith}
+use Rattle.std.proofs.lemmas.Bool.{eqb-true}
 use Rattle.postings.specs.declared.kind.Kind.{Kind}
 use Rattle.postings.specs.declared.kind.Kind.TheVariants.{Injection, Withdrawal, HourlyPurchase, HourlySale, BlockPurchase, BlockSale, FlexibleSale, Up, Down}
 use Rattle.postings.specs.Table.{code, kinds, coded, kind_of}

@@ -1,5 +1,5 @@
 -- What every lawful row keeps, whatever its kind.
-use Rattle.std.specs.Prelude.{ℕ, ◌<◌, ◌≤◌, unsigned_abs}
+use Rattle.std.specs.Prelude.{◌<◌, ◌≤◌, unsigned_abs}
 use Rattle.postings.specs.declared.row.PostingRow.{PostingRow}
 
 -- the hours are of one day, in order; a volume of 1 to 10,000; a price of at most 500,000 in size; a label of 0 or 1; a member below 64

@@ -1,5 +1,5 @@
 -- The posting table: the nine kinds, what each allows, and the rows that keep it.
-use Rattle.std.specs.Prelude.{ℕ, ◌+◌, ◌-◌, Bool, true, false, cond, ◌&&◌, List, [], ◌∷◌, ℤ, pos, negsuc, is_some, Some, None, Option, ◌==◌, int_le, nat_le, nat_lt}
+use Rattle.std.specs.Prelude.{ℕ, ◌+◌, ◌-◌, Bool, true, cond, ◌&&◌, List, [], ◌∷◌, ℤ, pos, negsuc, is_some, Some, None, Option, ◌==◌, int_le, nat_le, nat_lt}
 use Rattle.postings.specs.declared.kind.Kind.{Kind}
 use Rattle.postings.specs.declared.kind.Kind.TheVariants.{Injection, Withdrawal, HourlyPurchase, HourlySale, BlockPurchase, BlockSale, FlexibleSale, Up, Down}
 use Rattle.postings.specs.declared.limits.Limits.{Limits}

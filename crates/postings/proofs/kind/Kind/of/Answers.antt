@@ -38,6 +38,6 @@ pub returns-in-9 : goal.returns-in-9
 unfolding kind_of
 returns-in-9 c = search rules
 
-pub returns-in-default : goal.returns-in-default
+pub returns-in_default : goal.returns-in_default
 unfolding kind_of
-returns-in-default c = search rules
+returns-in_default c = search rules

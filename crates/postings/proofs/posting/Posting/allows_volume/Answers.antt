@@ -8,7 +8,7 @@ use Rattle.postings.proofs.posting.Posting.allows_volume.Goals as goal
 pub returns : goal.returns
 returns c = record {
   value =
-      c.allow-volume.ensures.value
+      c.allow_volume.ensures.value
       ∙ (ap (λ (l : Limits). volume_within l c.args.volume) c.limits.ensures.value
       ∙ sym (allowed_of c.args.self.now.row c.kind.result c.args.volume c.kind.ensures.value));
 }

@@ -3,5 +3,6 @@ use Rattle.std.proofs.Common.{sym}
 use Rattle.postings.proofs.Volumes.{lawful_volume}
 use Rattle.postings.proofs.posting.Posting.at_volume.Goals as goal
 
-pub invariant-of-result : goal.invariant-of-result
-invariant-of-result c = (lawful_volume c.args.self.row c.args.volume c.args.self.keeps (sym c.if-not-allows-volume.ensures.value), tt)
+pub invariant_of-result : goal.invariant_of-result
+invariant_of-result c =
+    record { keeps = lawful_volume c.args.self.row c.args.volume c.args.self.keeps (sym c.if-not-allows_volume.ensures.value) }

@@ -2,6 +2,6 @@ use Rattle.std.proofs.Common.{rules}
 use Rattle.postings.specs.Table.{lawful}
 use Rattle.postings.proofs.posting.Posting.make.Goals as goal
 
-pub invariant-of-result : goal.invariant-of-result
+pub invariant_of-result : goal.invariant_of-result
 unfolding lawful
-invariant-of-result c = search rules
+invariant_of-result c = search rules
