@@ -80,12 +80,12 @@ replaced_from f g i p v [] r e h u = refl
 replaced_from f g i zero v (x ∷ rs) r e h u =
     let same : x ≡ r = cc in
     let allows : volume_allowed x v ≡ true = ap (λ (y : PostingRow). volume_allowed y v) same ∙ h in
-    let here : g i ≡ Some v = u i ∙ cond-true _ _ _ (eq-eqb i (i + 0) (omega arith)) in
+    let here : g i ≡ Some v = u i ∙ cond-true _ _ _ (eq-eqb (i + 0) i (omega arith)) in
     ap (λ (y : PostingRow). y ∷ amended g (suc i) rs) (ap (amend x) here ∙ again x (f i) v allows)
     ∙ ap (λ (xs : List PostingRow). with_volume (amend x (f i)) v ∷ xs)
-    (same_from g f (suc i) rs (λ k a b. u k ∙ cond-false _ _ _ (ne_eqb k (i + 0) (λ q. omega arith))))
+    (same_from g f (suc i) rs (λ k a b. u k ∙ cond-false _ _ _ (ne_eqb (i + 0) k (λ q. omega arith))))
 replaced_from f g i (suc p) v (x ∷ rs) r e h u =
-    ap (λ (o : Option ℕ). amend x o ∷ amended g (suc i) rs) (u i ∙ cond-false _ _ _ (ne_eqb i (i + suc p) (λ q. omega arith)))
+    ap (λ (o : Option ℕ). amend x o ∷ amended g (suc i) rs) (u i ∙ cond-false _ _ _ (ne_eqb (i + suc p) i (λ q. omega arith)))
     ∙ ap (λ (xs : List PostingRow). amend x (f i) ∷ xs)
     (replaced_from f g (suc i) p v rs r e h (λ q. u q ∙ ap (λ (j : ℕ). update eqb f j (Some v) q) (add-suc i p ∙ sym (suc-add i p))))
 

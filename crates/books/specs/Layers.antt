@@ -1,8 +1,7 @@
 -- The correction layer: what its corrections say, the list that it shows, and what correcting asks and answers.
 use Rattle.std.specs.Prelude.{◌≡◌, ℕ, zero, suc, ◌<◌, Bool, true, false, cond, ◌||◌, ◌⊎◌, List, [], ◌∷◌, ◌++◌, length, take, Some, None, Ok, Err, Option, Result, ◌==◌, nat_eq}
 use Rattle.std.specs.Map.{lookup, update}
-use Rattle.std.specs.List.{slice_get}
-use Rattle.std.proofs.lemmas.Map.{Hit, Missing}
+use Rattle.std.specs.List.{slice_get, zip}
 use Rattle.faults.specs.declared.making.MakingFault.TheVariants.{Volume}
 use Rattle.faults.specs.declared.fault.Fault.{Fault}
 use Rattle.faults.specs.declared.fault.Fault.TheVariants.{Making, NoPosting, CorrectionsFull}
@@ -17,7 +16,7 @@ corrected_places c = take c.used c.places
 
 -- the latest volume at a place
 abbrev pub volume_at : Corrections → ℕ → Option ℕ
-volume_at c place = lookup nat_eq (corrected_places c) (take c.used c.volumes) place
+volume_at c place = lookup (nat_eq place) (zip (corrected_places c) (take c.used c.volumes))
 
 -- a row at the volume noted for its place, where its kind allows it
 abbrev pub amend : PostingRow → Option ℕ → PostingRow
@@ -80,10 +79,21 @@ abbrev pub Corrects : List PostingRow → List ℕ → ℕ → ℕ → Result (U
 Corrects list marked place volume (Ok _) new newMarked = Replaces list marked place volume new newMarked
 Corrects list marked place volume (Err fault) new newMarked = NotReplaced list marked place volume fault new newMarked
 
+-- the place stands first at index i of a list
+abbrev pub Hit : ℕ → List ℕ → ℕ → Type 0
+Hit place [] i = ⊥
+Hit place (x ∷ xs) zero = (place == x) ≡ true
+Hit place (x ∷ xs) (suc i) = ((place == x) ≡ false) × Hit place xs i
+
+-- the place is not in a list
+abbrev pub Missing : ℕ → List ℕ → Type 0
+Missing place [] = Unit {0}
+Missing place (x ∷ xs) = ((place == x) ≡ false) × Missing place xs
+
 -- where a place stands first among the corrected ones, if it does
 abbrev pub Stands : Corrections → ℕ → Option ℕ → Type 0
-Stands c place (Some i) = (i < c.used) × Hit nat_eq place (corrected_places c) i
-Stands c place None = Missing nat_eq place (corrected_places c)
+Stands c place (Some i) = (i < c.used) × Hit place (corrected_places c) i
+Stands c place None = Missing place (corrected_places c)
 
 -- a volume is noted at a place, or there is no room for the place
 pub record Notes (old : Corrections) (place volume : ℕ) (new : Corrections) : Type 0 where

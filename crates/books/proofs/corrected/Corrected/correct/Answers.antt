@@ -14,12 +14,12 @@ returns-in-None g c =
       cases = record { refused = inl (refl, no_posting (volume_at k) rows c.args.place c.in-None.ensures.value); same = refl; places = refl };
     }
 
-pub returns-then-not-allows-volume : goal.returns-then-not-allows-volume
-returns-then-not-allows-volume g c =
+pub returns-then-not-allows_volume : goal.returns-then-not-allows_volume
+returns-then-not-allows_volume g c =
     let f = volume_at c.args.self.now.corrections in
     let rows = g.B.Book.list c.args.self.now.lower in
     let at = c.in-Some.ensures.value in
-    let allowed = allowed_there f rows c.args.place c.args.volume c.in-Some.posting.row at ∙ sym c.if-not-allows-volume.ensures.value in
+    let allowed = allowed_there f rows c.args.place c.args.volume c.in-Some.posting.row at ∙ sym c.if-not-allows_volume.ensures.value in
     record {
       lower = refl;
       cases = record {
@@ -34,7 +34,7 @@ returns-then-not-note g c =
     let f = volume_at c.args.self.now.corrections in
     let rows = g.B.Book.list c.args.self.now.lower in
     let at = c.in-Some.ensures.value in
-    let allowed = allowed_there f rows c.args.place c.args.volume c.in-Some.posting.row at ∙ sym c.if-not-allows-volume.ensures.value in
+    let allowed = allowed_there f rows c.args.place c.args.volume c.in-Some.posting.row at ∙ sym c.if-not-allows_volume.ensures.value in
     let n = c.if-not-note.ensures.cases in
     record {
       lower = refl;
@@ -50,7 +50,7 @@ returns g c =
     let f = volume_at c.args.self.now.corrections in
     let rows = g.B.Book.list c.args.self.now.lower in
     let at = c.in-Some.ensures.value in
-    let yes = sym c.if-not-allows-volume.ensures.value in
+    let yes = sym c.if-not-allows_volume.ensures.value in
     let allowed = allowed_there f rows c.args.place c.args.volume c.in-Some.posting.row at ∙ yes in
     let n = c.if-not-note.ensures.cases in
     record {

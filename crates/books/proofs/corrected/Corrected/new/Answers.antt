@@ -1,5 +1,6 @@
 -- With no place corrected, no place has a volume.
 use Rattle.std.proofs.Common.{ℕ, eqb, List, take, refl, ap}
+use Rattle.std.specs.List.{zip}
 use Rattle.std.specs.Map.{lookup}
 use Rattle.books.proofs.Amends.{amended_none}
 use Rattle.books.proofs.corrected.Corrected.new.Goals as goal
@@ -7,6 +8,6 @@ use Rattle.books.proofs.corrected.Corrected.new.Goals as goal
 pub returns : goal.returns
 returns g c = record {
   lower = refl;
-  list = amended_none _ 0 (g.B.Book.list c.args.lower) (λ k. ap (λ (ps : List ℕ). lookup eqb ps (take c.new-corrections.result.used c.new-corrections.result.volumes) k) c.new-corrections.ensures.places);
+  list = amended_none _ 0 (g.B.Book.list c.args.lower) (λ k. ap (λ (ps : List ℕ). lookup (eqb k) (zip ps (take c.new-corrections.result.used c.new-corrections.result.volumes))) c.new-corrections.ensures.places);
   places = c.new-corrections.ensures.places;
 }

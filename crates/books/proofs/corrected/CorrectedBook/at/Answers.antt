@@ -8,16 +8,16 @@ pub returns-in-None : goal.returns-in-None
 returns-in-None g c =
     record { value = at_none (volume_at c.args.self.now.corrections) (g.B.Book.list c.args.self.now.lower) c.args.place c.in-None.ensures.value }
 
-pub returns-in-Some-volume-at : goal.returns-in-Some-volume-at
-returns-in-Some-volume-at g c = record {
+pub returns-in-Some-volume_at : goal.returns-in-Some-volume_at
+returns-in-Some-volume_at g c = record {
   value =
       at_some (volume_at c.args.self.now.corrections) (g.B.Book.list c.args.self.now.lower) c.args.place
-      c.in-Some.posting.row c.at-volume.result.row (Some c.in-Some-volume-at.volume) c.in-Some.ensures.value c.in-Some-volume-at.ensures.value c.at-volume.ensures.value;
+      c.in-Some.posting.row c.at_volume.result.row (Some c.in-Some-volume_at.volume) c.in-Some.ensures.value c.in-Some-volume_at.ensures.value c.at_volume.ensures.value;
 }
 
-pub returns-in-None-volume-at : goal.returns-in-None-volume-at
-returns-in-None-volume-at g c = record {
+pub returns-in-None-volume_at : goal.returns-in-None-volume_at
+returns-in-None-volume_at g c = record {
   value =
       at_some (volume_at c.args.self.now.corrections) (g.B.Book.list c.args.self.now.lower) c.args.place
-      c.in-Some.posting.row c.in-Some.posting.row None c.in-Some.ensures.value c.in-None-volume-at.ensures.value refl;
+      c.in-Some.posting.row c.in-Some.posting.row None c.in-Some.ensures.value c.in-None-volume_at.ensures.value refl;
 }

@@ -21,7 +21,7 @@ returns-in-Some c =
 
 pub returns-then-i-ge32 : goal.returns-then-i-ge32
 returns-then-i-ge32 c =
-    let m = c.in-default.ensures.cases in
+    let m = c.in_default.ensures.cases in
     let a : among c.args.place (corrected_places c.args.self.now) ≡ false = among_missing c.args.place (corrected_places c.args.self.now) m in
     let n : 32 ≤ length (corrected_places c.args.self.now) = simp length-take (omega arith) in
     record {
@@ -33,7 +33,7 @@ returns-then-i-ge32 c =
 
 pub returns : goal.returns
 returns c =
-    let m = c.in-default.ensures.cases in
+    let m = c.in_default.ensures.cases in
     let a : among c.args.place (corrected_places c.args.self.now) ≡ false = among_missing c.args.place (corrected_places c.args.self.now) m in
     let k : c.args.self.now.used < length c.args.self.now.places = omega arith in
     let l : c.args.self.now.used < length c.args.self.now.volumes = omega arith in

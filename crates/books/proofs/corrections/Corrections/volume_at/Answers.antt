@@ -1,6 +1,5 @@
-use Rattle.std.proofs.Common.{◌≤◌, eqb, length, take, sym, arith}
-use Rattle.std.proofs.lemmas.Map.{lookup-missing}
-use Rattle.books.proofs.Marks.{found_hit}
+use Rattle.std.proofs.Common.{◌≤◌, length, take, sym, arith}
+use Rattle.books.proofs.Marks.{found_hit, lookup_missing}
 use Rattle.books.proofs.corrections.Corrections.volume_at.Goals as goal
 
 pub returns-in-Some : goal.returns-in-Some
@@ -11,4 +10,4 @@ returns-in-Some c =
 
 pub returns-in-None : goal.returns-in-None
 returns-in-None c =
-    record { value = sym (lookup-missing eqb c.args.place _ (take c.args.self.now.used c.args.self.now.volumes) c.in-None.ensures.cases) }
+    record { value = sym (lookup_missing c.args.place _ (take c.args.self.now.used c.args.self.now.volumes) c.in-None.ensures.cases) }

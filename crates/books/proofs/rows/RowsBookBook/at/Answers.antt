@@ -6,5 +6,5 @@ use Rattle.books.proofs.rows.RowsBookBook.at.Goals as goal
 
 pub returns-in-Err : goal.returns-in-Err
 returns-in-Err c =
-    let h = lawful_nth (entries c.args.self.now.roll) c.args.place c.in-ok-row.row c.args.self.now.keeps (sym c.in-ok-row.ensures.value) in
-    absurd (lawful_made c.in-ok-row.row _ h c.in-Err.ensures.cases)
+    let h = lawful_nth (entries c.args.self.now.roll) c.args.place c.in_ok-row.row c.args.self.now.keeps (sym c.in_ok-row.ensures.value) in
+    absurd (lawful_made c.in_ok-row.row _ h c.in-Err.ensures.cases)

@@ -4,7 +4,7 @@ use Rattle.postings.specs.Table.{lawful}
 use Rattle.books.proofs.Rolls.{lawful_pushed}
 use Rattle.books.proofs.rows.RowsBookOpenBook.post.Goals as goal
 
-pub invariant-of-self : goal.invariant-of-self
-invariant-of-self c =
+pub invariant_of-self : goal.invariant_of-self
+invariant_of-self c =
     let h : lawful c.row.result ≡ true = rw c.row.ensures.value c.args.posting.keeps in
-    (lawful_pushed c.args.self.now.roll c.push.new.self c.row.result c.push.result c.push.ensures.cases c.args.self.now.keeps h, tt)
+    record { keeps = lawful_pushed c.args.self.now.roll c.push.new.self c.row.result c.push.result c.push.ensures.cases c.args.self.now.keeps h }
