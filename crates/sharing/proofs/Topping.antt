@@ -1,5 +1,5 @@
 -- What the lists of rule L's code come to: the remainders, the marks and the parts.
-use Rattle.std.proofs.Common.{◌≡◌, ℕ, ◌+◌, ◌/◌, ◌<◌, ◌≤◌, Bool, true, false, cond, ltb, List, map, length, get_or, ℤ, pos, negsuc, ◌+ℤ◌, nat_abs, sum_by, sum, sym, refl, ap, ◌∙◌, ap₂, ⊎_elim, mul-div_cancel, arith}
+use Rattle.std.proofs.Common.{◌≡◌, ℕ, ◌/◌, ◌<◌, ◌≤◌, Bool, true, false, cond, ltb, List, map, length, get_or, ℤ, pos, negsuc, ◌+ℤ◌, nat_abs, sum_by, sum, sym, refl, ap, ◌∙◌, ap₂, ⊎_elim, mul-div_cancel, arith}
 use native.Mathlib.Nat.{div-zero}
 use lib.Signed.{lt_z}
 use Rattle.std.proofs.lemmas.List.FromFn.{fill_by_all}

@@ -1,5 +1,5 @@
 -- Why the numbers that are shared by fit 64 bits.
-use Rattle.std.specs.Prelude.{◌≡◌, ℕ, ◌*◌, ◌≤◌, ℤ, pos, ◌*ℤ◌, FitsSigned, unsigned_abs}
+use Rattle.std.specs.Prelude.{◌≡◌, ℕ, ◌≤◌, ℤ, pos, ◌*ℤ◌, FitsSigned, unsigned_abs}
 use Rattle.std.proofs.Common.{arith, mul-le-mul_left, ◌∙◌, ap, ap₂, to_z, of_z}
 use Rattle.std.proofs.lemmas.Int.{ints, to_z-of_z, to_z_pos}
 use Rattle.std.specs.Int.{int_div_euclid, int_rem_euclid, w64}
