@@ -3,8 +3,8 @@ use Rattle.std.proofs.lemmas.List.Elements.{All-from_get_or}
 use Rattle.reckoning.proofs.Members.{all_members}
 use Rattle.reckoning.proofs.reckoned.reckon.Goals as goal
 
-pub reckon-sheet-requires : goal.reckon-sheet-requires
-reckon-sheet-requires g c =
+pub reckon_sheet-requires : goal.reckon_sheet-requires
+reckon_sheet-requires g c =
     let rows = g.B.Book.list c.args.book.now in
     let m = c.in-Ok.ensures.cases in
     record {

@@ -15,5 +15,5 @@ pub returns-in-Err-reckon : goal.returns-in-Err-reckon
 returns-in-Err-reckon g c =
     let m = c.in-Ok.ensures.cases in
     record {
-      cases = inr (m, moved _ _ _ _ _ _ c.prices-prices.ensures.value (c.open-book.ensures.cases.passed m) c.members-named-members.ensures.value c.in-Err-reckon.ensures.cases.refused);
+      cases = inr (m, moved _ _ _ _ _ _ c.prices-prices.ensures.value (c.open-book.ensures.cases.passed m) c.members_named-members.ensures.value c.in-Err-reckon.ensures.cases.refused);
     }
