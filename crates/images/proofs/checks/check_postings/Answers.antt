@@ -1,10 +1,9 @@
-use Rattle.std.proofs.Common.{◌≡◌, true, refl, ap, ◌∙◌, subst, arith, below_more}
+use Rattle.std.proofs.Common.{◌≡◌, true, refl, subst, arith, below_more}
 use Rattle.faults.specs.Asks.{Refused}
 use Rattle.postings.specs.declared.row.PostingRow.{PostingRow}
 use Rattle.postings.specs.Table.{lawful}
 use Rattle.postings.specs.Making.{to_make}
 use Rattle.postings.proofs.Lawful.{lawful_met, met_lawful}
-use Rattle.images.specs.Reading.{row_at}
 use Rattle.images.proofs.checks.check_postings.Goals as goal
 
 pub loop-place-preserved : goal.loop-place-preserved

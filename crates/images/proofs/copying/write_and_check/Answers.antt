@@ -1,4 +1,4 @@
-use Rattle.std.proofs.Common.{length, rules}
+use Rattle.std.proofs.Common.{rules}
 use Rattle.images.proofs.Written.{written_within}
 use Rattle.images.proofs.copying.write_and_check.Goals as goal
 

@@ -1,7 +1,5 @@
-use Rattle.std.proofs.Common.{◌≡◌, ℕ, true, refl, subst, arith}
-use Rattle.postings.specs.Table.{all_lawful}
+use Rattle.std.proofs.Common.{arith}
 use Rattle.faults.proofs.Asks.{asks_never}
-use Rattle.images.specs.Reading.{rows_up_to, count_in}
 use Rattle.images.specs.Checking.{to_check}
 use Rattle.images.proofs.Rows.{rows_none, rows_lawful}
 use Rattle.images.proofs.Deciding.{checking_decided}
