@@ -3,7 +3,7 @@ use Rattle.std.proofs.Common.{◌≡◌, ℕ, zero, suc, ◌+◌, ◌*◌, ◌<�
 use Rattle.std.specs.List.{range_with_len, flat_map, slice_get}
 use Rattle.std.proofs.lemmas.List.FromFn.{length-map-range_with_len, get_or-map-range_with_len, map-range_with_len_more}
 use Rattle.std.proofs.lemmas.List.{append-nil, drop_all, flat_map_more}
-use Rattle.std.proofs.lemmas.List.Elements.{All-from_get_or}
+use Rattle.std.proofs.lemmas.List.Elements.{All-nil, All-cons, All-head, All-tail, All-from_get_or}
 use Rattle.std.proofs.lemmas.Bool.{and_parts}
 use Rattle.postings.proofs.Lawful.{lawful_met, lawful_nth}
 use Rattle.postings.proofs.Bounds.{bounds}
@@ -77,15 +77,15 @@ module _ {X : Type 0} (P : X → Type 0) (bs : List ℕ) (f : X → List ℕ) (g
   pieces_read : ((k : ℕ) (x : X) (rest : List ℕ) → P x → drop (o k) bs ≡ f x ++ rest → (g k ≡ x) × (drop (o (k + 1)) bs ≡ rest)) → (i : ℕ) (xs : List X) (rest : List ℕ) → All P xs → drop (o i) bs ≡ flat_map f xs ++ rest → (map g (range_with_len i (length xs)) ≡ xs) × (drop (o (i + length xs)) bs ≡ rest)
   pieces_read reads i [] rest p e = (refl, ap (λ (k : ℕ). drop (o k) bs) (add-zero i) ∙ e)
   pieces_read reads i (x ∷ xs) rest p e =
-      let one = reads i x (flat_map f xs ++ rest) p.0 (e ∙ append_assoc (f x) (flat_map f xs) rest) in
-      let more = pieces_read reads (i + 1) xs rest p.1 one.1 in
+      let one = reads i x (flat_map f xs ++ rest) (All-head P x xs p) (e ∙ append_assoc (f x) (flat_map f xs) rest) in
+      let more = pieces_read reads (i + 1) xs rest (All-tail P x xs p) one.1 in
       let n : i + suc (length xs) ≡ i + 1 + length xs = omega arith in
       (ap₂ (λ (y : X) (ys : List X). y ∷ ys) one.0 more.0, ap (λ (k : ℕ). drop (o k) bs) n ∙ more.1)
 
 -- every lawful row keeps the bounds
 all_bounds : (list : List PostingRow) → all_lawful list ≡ true → All Bounds list
-all_bounds [] h = tt
-all_bounds (r ∷ list) h = let p = and_parts (lawful r) (all_lawful list) h in (bounds r p.0, all_bounds list p.1)
+all_bounds [] h = All-nil Bounds
+all_bounds (r ∷ list) h = let p = and_parts (lawful r) (all_lawful list) h in All-cons Bounds r list (bounds r p.0) (all_bounds list p.1)
 
 price_is : (bs prices : List ℕ) → prices_in bs ≡ prices → (k : ℕ) → k < 24 → price_at bs k ≡ get_or prices k 0
 unfolding prices_in
@@ -148,15 +148,15 @@ module _ (bs : List ℕ) where
 pub day_opens : DayOpens
 day_opens prices list d =
     let s = stands (bytes_of prices list) prices list refl d in
-    let rows = ap (rows_up_to (bytes_of prices list)) s.counted ∙ s.rows-there in
+    let rows = ap (rows_up_to (bytes_of prices list)) s.counted ∙ s.rows_there in
     record {
       met = (
         record { priced = s.priced; few = omega (arith, s.counted, d.few); long = bytes_long prices list d.priced ∙ ap (λ (k : ℕ). 100 + 13 * k) (sym s.counted) },
         (
-          (λ k h. subst (λ (p : ℕ). p ≤ 500000) (sym (price_is (bytes_of prices list) prices s.prices-there k h)) (d.limited k h)),
+          (λ k h. subst (λ (p : ℕ). p ≤ 500000) (sym (price_is (bytes_of prices list) prices s.prices_there k h)) (d.limited k h)),
           ((λ k h. lawful_met _ (lawful_nth list k _ d.lawful (ap (λ (rs : List PostingRow). slice_get rs k) (sym rows) ∙ rows_nth (bytes_of prices list) (count_in (bytes_of prices list)) k h))), tt),
         ),
       );
-      priced = s.prices-there;
+      priced = s.prices_there;
       listed = rows;
     }

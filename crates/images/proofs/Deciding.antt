@@ -1,8 +1,6 @@
 -- The check of an image has one answer.
-use Rattle.std.proofs.Common.{◌≡◌, ℕ, ◌+◌, ◌*◌, ◌≤◌, ◌⊎◌, List, length, inl, inr, ⊎_elim}
-use Rattle.faults.specs.declared.fault.Fault.{Fault}
+use Rattle.std.proofs.Common.{ℕ, ◌+◌, ◌*◌, ◌⊎◌, List, length, inl, inr, ⊎_elim}
 use Rattle.faults.specs.declared.fault.Fault.TheVariants.{ImageFrame, ImagePriceAt, ImagePostingAt}
-use Rattle.faults.specs.Asks.{Met, Refused}
 use Rattle.faults.proofs.Asks.{AllDecided, decided_ask, decided_each, decided_within, eq_or_not, le_or_not}
 use Rattle.postings.specs.Making.{to_make}
 use Rattle.postings.proofs.Lawful.{making_decided}

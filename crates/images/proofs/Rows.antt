@@ -1,11 +1,11 @@
 -- The rows of an image by their places.
-use Rattle.std.proofs.Common.{◌≡◌, ℕ, ◌<◌, ◌≤◌, true, List, [], ◌∷◌, length, get_or, Some, None, Option, sym, refl, ap, ◌∙◌, arith}
+use Rattle.std.proofs.Common.{◌≡◌, ℕ, ◌<◌, ◌≤◌, true, List, [], length, Some, None, refl, ap, ◌∙◌, arith}
 use Rattle.std.specs.List.{slice_get}
 use Rattle.std.proofs.lemmas.List.FromFn.{length-map-range_with_len, get_or-map-range_with_len}
 use Rattle.std.proofs.lemmas.Option.{slice_get-get_or, slice_get_past}
 use Rattle.faults.specs.Asks.{Met}
 use Rattle.postings.specs.Making.{to_make}
-use Rattle.postings.specs.Table.{lawful, all_lawful}
+use Rattle.postings.specs.Table.{all_lawful}
 use Rattle.postings.proofs.Lawful.{lawful_places, met_lawful}
 use Rattle.images.specs.Reading.{row_at, rows_up_to}
 

@@ -8,5 +8,5 @@ use Rattle.images.proofs.bytes.i32_at.Goals as goal
 pub returns : goal.returns
 unfolding i32_at
 returns c = record {
-  value = to_z-of_z w32 c.cast-signed.result (record { sfits = c.cast-signed.type-inv }) ∙ c.cast-signed.ensures ∙ signed_is _ c.u32-at.type-inv ∙ ap signed c.u32-at.ensures.value;
+  value = to_z-of_z w32 c.cast_signed.result (record { sfits = c.cast_signed.type_inv }) ∙ c.cast_signed.ensures ∙ signed_is _ c.u32_at.type_inv ∙ ap signed c.u32_at.ensures.value;
 }

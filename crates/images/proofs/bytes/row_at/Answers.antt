@@ -6,5 +6,5 @@ use Rattle.images.proofs.bytes.row_at.Goals as goal
 pub returns : goal.returns
 unfolding row_at
 returns c =
-    let p = to_z-of_z w32 c.i32-at.result (record { sfits = c.i32-at.type-inv }) ∙ c.i32-at.ensures.value in
+    let p = to_z-of_z w32 c.i32_at.result (record { sfits = c.i32_at.type_inv }) ∙ c.i32_at.ensures.value in
     record { value = cc }

@@ -7,7 +7,7 @@ use Rattle.images.proofs.checks.prices.Goals as goal
 pub loop-hour-preserved : goal.loop-hour-preserved
 loop-hour-preserved c = (
   simp length-set c.loop-hour.invariant.0,
-  λ k h. ap (λ (v : ℕ). get_or (set c.loop-hour.out c.loop-hour.hour v) k 0) c.price-at.ensures.value
+  λ k h. ap (λ (v : ℕ). get_or (set c.loop-hour.out c.loop-hour.hour v) k 0) c.price_at.ensures.value
       ∙ fill_by_more (price_at c.args.bytes.now) c.loop-hour.out c.loop-hour.hour 0 (omega arith) c.loop-hour.invariant.1 k h,
 )
 

@@ -11,4 +11,4 @@ over old xs ys at n e h =
     ∙ ap (λ (zs : List ℕ). take at old ++ (xs ++ zs)) (drop-drop (n - at) at old ∙ ap (λ (k : ℕ). drop k old) (omega arith))
 
 pub returns : goal.returns
-returns c = record { after = over c.args.out.now c.args.bytes.now _ c.args.at _ c.copy-from-slice.ensures.after (omega arith) }
+returns c = record { after = over c.args.out.now c.args.bytes.now _ c.args.at _ c.copy_from_slice.ensures.after (omega arith) }

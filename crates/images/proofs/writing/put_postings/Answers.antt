@@ -17,9 +17,9 @@ loop-place-preserved g c =
     let inside : c.loop-place.place < length (g.B.Book.list c.args.book.now) = omega arith in
     elim c.match-at.branch [
       | in-Some w ↦
-          let put : c.match-at.out ≡ laid c.loop-place.out (100 + 13 * c.loop-place.place) w.row-bytes.result = cc in
-          let bytes : w.row-bytes.result ≡ row_bytes w.in-Some.posting.row = cc in
-          laid_turn row_bytes 13 (λ r. refl) c.args.out.now c.loop-place.out c.match-at.out w.row-bytes.result 100 c.loop-place.place rows w.in-Some.posting.row
+          let put : c.match-at.out ≡ laid c.loop-place.out (100 + 13 * c.loop-place.place) w.row_bytes.result = cc in
+          let bytes : w.row_bytes.result ≡ row_bytes w.in-Some.posting.row = cc in
+          laid_turn row_bytes 13 (λ r. refl) c.args.out.now c.loop-place.out c.match-at.out w.row_bytes.result 100 c.loop-place.place rows w.in-Some.posting.row
           c.loop-place.invariant put bytes (take_place rows _ _ w.in-Some.ensures.value) inside c.requires
       | in-None w ↦ absurd (some_below rows c.loop-place.place inside w.in-None.ensures.value)
     ]

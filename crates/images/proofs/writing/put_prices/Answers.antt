@@ -13,8 +13,8 @@ loop-hour-init c = laid_none _ 2
 pub loop-hour-preserved : goal.loop-hour-preserved
 loop-hour-preserved c =
     let inside : c.loop-hour.hour < length c.args.prices.now = omega arith in
-    laid_turn u32_of 4 (λ p. refl) c.args.out.now c.loop-hour.out c.put.new.out c.to-be-bytes.result 2 c.loop-hour.hour c.args.prices.now (get_or c.args.prices.now c.loop-hour.hour 0)
-    c.loop-hour.invariant c.put.ensures.after c.to-be-bytes.ensures (take_more _ _ 0 inside) inside (omega arith)
+    laid_turn u32_of 4 (λ p. refl) c.args.out.now c.loop-hour.out c.put.new.out c.to_be_bytes.result 2 c.loop-hour.hour c.args.prices.now (get_or c.args.prices.now c.loop-hour.hour 0)
+    c.loop-hour.invariant c.put.ensures.after c.to_be_bytes.ensures (take_more _ _ 0 inside) inside (omega arith)
 
 pub returns : goal.returns
 returns c =

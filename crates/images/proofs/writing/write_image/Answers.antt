@@ -8,5 +8,5 @@ returns g c =
     let priced : length c.args.prices.now ≡ 24 = omega arith in
     let few : length (g.B.Book.list c.args.book.now) ≤ 2048 = omega arith in
     let room : 100 + 13 * length (g.B.Book.list c.args.book.now) ≤ length c.args.out.now = omega arith in
-    let w = writes c.args.prices.now rows c.args.out.now c.put-day.new.out (100 + 13 * c.count-count.result) (priced, (c.in-ok-check-limits.ensures.cases, (few, (room, tt)))) (omega arith) c.put-day.ensures.after in
-    record { cases = w; opens = written_opens c.args.prices.now rows c.args.out.now c.put-day.new.out _ w c.count-count.ensures.lawful }
+    let w = writes c.args.prices.now rows c.args.out.now c.put_day.new.out (100 + 13 * c.count-count.result) (priced, (c.in_ok-check_limits.ensures.cases, (few, (room, tt)))) (omega arith) c.put_day.ensures.after in
+    record { cases = w; opens = written_opens c.args.prices.now rows c.args.out.now c.put_day.new.out _ w c.count-count.ensures.lawful }
