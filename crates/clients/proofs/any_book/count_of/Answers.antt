@@ -9,7 +9,7 @@ pub loop-place-preserved : goal.loop-place-preserved
 loop-place-preserved g c =
     let rows = g.B.Book.list c.args.book.now in
     let e : count_of c.args.code (take (c.loop-place.place + 1) rows) ≡ count_of c.args.code (take c.loop-place.place rows) + _ = count_more c.args.code rows c.loop-place.place in
-    (omega (arith, c.loop-place.invariant.0, c.one-at-count.ensures.value, ap (one_at c.args.code) c.at.ensures.value), omega arith)
+    (omega (arith, c.loop-place.invariant.0, c.one_at-count.ensures.value, ap (one_at c.args.code) c.at.ensures.value), omega arith)
 
 pub returns : goal.returns
 returns g c =
