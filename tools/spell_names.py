@@ -5,7 +5,7 @@ usage: python3 tools/spell_names.py [--dry]     at the top of the repository, on
 
 Words are in snake case, types in camel case. A name is one that a file of specs/ or proofs/ declares (an answer, an
 invariant or a measure, which Rattle names, is left alone). Functions of src/, strings and comments in prose keep
-their text. It stops where two names would fall together.
+their text. It names those that would fall together.
 """
 
 import os
