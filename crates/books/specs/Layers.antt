@@ -63,21 +63,21 @@ to_correct list places place volume =
     ∷ ask CorrectionsFull (RoomFor places place) ∷ []
 
 -- the volume at the place is replaced, and nothing else changes
-pub record Replaces (list : List PostingRow) (marked : List ℕ) (place volume : ℕ) (new : List PostingRow) (newMarked : List ℕ) : Type 0 where
+pub record Replaces (list : List PostingRow) (marked : List ℕ) (place volume : ℕ) (new : List PostingRow) (new_marked : List ℕ) : Type 0 where
   pub met : Met (to_correct list marked place volume)
   pub after : new ≡ with_volume_at list place volume
-  pub places : newMarked ≡ joined marked place
+  pub places : new_marked ≡ joined marked place
 
 -- the list and the corrected places stay as they were
-pub record NotReplaced (list : List PostingRow) (marked : List ℕ) (place volume : ℕ) (fault : Fault) (new : List PostingRow) (newMarked : List ℕ) : Type 0 where
+pub record NotReplaced (list : List PostingRow) (marked : List ℕ) (place volume : ℕ) (fault : Fault) (new : List PostingRow) (new_marked : List ℕ) : Type 0 where
   pub refused : Refused (to_correct list marked place volume) fault
   pub same : new ≡ list
-  pub places : newMarked ≡ marked
+  pub places : new_marked ≡ marked
 
 -- the list and the corrected places of a layer, a place and a volume, the answer, and the list and the corrected places then
 abbrev pub Corrects : List PostingRow → List ℕ → ℕ → ℕ → Result (Unit {0}) Fault → List PostingRow → List ℕ → Type 0
-Corrects list marked place volume (Ok _) new newMarked = Replaces list marked place volume new newMarked
-Corrects list marked place volume (Err fault) new newMarked = NotReplaced list marked place volume fault new newMarked
+Corrects list marked place volume (Ok _) new new_marked = Replaces list marked place volume new new_marked
+Corrects list marked place volume (Err fault) new new_marked = NotReplaced list marked place volume fault new new_marked
 
 -- the place stands first at index i of a list
 abbrev pub Hit : ℕ → List ℕ → ℕ → Type 0

@@ -2,14 +2,14 @@
 
 ghost use Rattle.std.specs.Prelude.{◌≡◌, ◌&&◌, ◌==◌};
 ghost use Rattle.formulas.specs.Postings.{is_kind};
-ghost use Rattle.gathering.specs.Offers.{way, better as betterOf, Bettered};
+ghost use Rattle.gathering.specs.Offers.{way, better as better_of, Bettered};
 
 use super::kinds::{is_down, is_up};
 use postings::Posting;
 
 /// The better of two prices.
 fn better(up: bool, a: u32, b: u32) -> u32
-    ensures value { result ≡ betterOf up a b }
+    ensures value { result ≡ better_of up a b }
 {
     if up { a.max(b) } else { a.min(b) }
 }

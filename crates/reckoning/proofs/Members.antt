@@ -1,5 +1,5 @@
 -- Every posting of a list is of a member.
-use Rattle.std.proofs.Common.{◌≡◌, ℕ, suc, ◌<◌, List, [], ◌∷◌, length, All, refl, arith}
+use Rattle.std.proofs.Common.{ℕ, suc, ◌<◌, List, [], ◌∷◌, length, All, refl, arith}
 use Rattle.std.proofs.lemmas.List.Elements.{All-nil, All-cons}
 use Rattle.postings.specs.declared.row.PostingRow.{PostingRow}
 use Rattle.reckoning.specs.Admission.{MemberAt}

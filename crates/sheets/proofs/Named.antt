@@ -1,5 +1,5 @@
 -- One more row among those that name members.
-use Rattle.std.proofs.Common.{◌≡◌, ℕ, ◌+◌, max, List, [], ◌∷◌, ◌++◌, refl, arith}
+use Rattle.std.proofs.Common.{◌≡◌, ◌+◌, max, List, [], ◌∷◌, ◌++◌, arith}
 use Rattle.postings.specs.declared.row.PostingRow.{PostingRow}
 use Rattle.sheets.specs.Members.{named}
 

@@ -1,4 +1,4 @@
-use Rattle.std.proofs.Common.{◌≡◌, ℕ, ◌+◌, ◌≤◌, cond, ◌&&◌, ltb, leb, length, get_or, pos, ◌+ℤ◌}
+use Rattle.std.proofs.Common.{◌≡◌, ℕ, ◌+◌, cond, ◌&&◌, ltb, leb, length, get_or, pos, ◌+ℤ◌}
 use Rattle.gathering.proofs.imbalances.shift.Given as goal
 
 -- the hours so far have gained

@@ -1,4 +1,4 @@
-use Rattle.std.proofs.Common.{◌≡◌, ℕ, ◌<◌, Bool, true, false, cond, ◌&&◌, eqb, length, get_or, nat_abs, sym, ap, ◌∙◌, arith, w32, SFits, rules}
+use Rattle.std.proofs.Common.{ℕ, ◌<◌, Bool, cond, eqb, length, get_or, nat_abs, sym, ap, ◌∙◌, arith, w32, SFits, rules}
 use Rattle.std.proofs.lemmas.Int.{to_z-of_z}
 use Rattle.std.proofs.lemmas.Bool.{cond-false}
 use Rattle.postings.specs.declared.row.PostingRow.{PostingRow}

@@ -1,4 +1,4 @@
-use Rattle.std.proofs.Common.{◌≡◌, ℕ, ◌<◌, length, Some, sym, refl, ap, ◌∙◌, arith, below_more}
+use Rattle.std.proofs.Common.{◌≡◌, ◌<◌, length, Some, sym, refl, ap, ◌∙◌, arith, below_more}
 use Rattle.postings.specs.declared.row.PostingRow.{PostingRow}
 use Rattle.books.proofs.Places.{some_below}
 use Rattle.reckoning.specs.Admission.{MemberAt}

@@ -1,4 +1,4 @@
-use Rattle.std.proofs.Common.{◌≡◌, ℕ, ◌+◌, ◌-◌, ◌*◌, ◌≤◌, ap, ap₂, mul-le-mul, arith}
+use Rattle.std.proofs.Common.{◌≡◌, ◌+◌, ◌*◌, ◌≤◌, ap, ap₂, mul-le-mul, arith}
 use Rattle.postings.specs.declared.row.PostingRow.{PostingRow}
 use Rattle.formulas.specs.Postings.{span}
 use Rattle.reckoning.proofs.admission.kwh_of.Goals as goal

@@ -1,4 +1,4 @@
-use Rattle.std.proofs.Common.{◌≡◌, ◌≤◌, take}
+use Rattle.std.proofs.Common.{◌≡◌, take}
 use Rattle.sheets.specs.Members.{named}
 use Rattle.sheets.proofs.members.members_named.Given as goal
 
