@@ -1,16 +1,19 @@
 -- The list of a correction layer.
-use Rattle.std.proofs.Common.{◌≡◌, ℕ, zero, suc, ◌+◌, ◌<◌, ◌≤◌, true, false, cond, eqb, ◌⊎◌, List, [], ◌∷◌, ◌++◌, length, Some, None, Option, sym, refl, ap, ◌∙◌, inl, inr, ⊎_elim, add-zero, add-suc, suc-add, zero-add, arith}
+use Rattle.std.proofs.Common.{◌≡◌, ℕ, zero, suc, ◌+◌, ◌<◌, ◌≤◌, true, false, cond, eqb, ◌⊎◌, List, [], ◌∷◌, ◌++◌, length, Some, None, Ok, Err, Option, Result, sym, refl, ap, ◌∙◌, inl, inr, ⊎_elim, add-zero, add-suc, suc-add, zero-add, arith}
 use Rattle.std.specs.Map.{update}
 use Rattle.std.specs.List.{slice_get}
 use Rattle.std.proofs.lemmas.Bool.{and_parts, and_from, eq-eqb, ne_eqb, cond-true, cond-false, cond_both}
 use Rattle.faults.specs.declared.making.MakingFault.TheVariants.{Volume}
+use Rattle.faults.specs.declared.fault.Fault.{Fault}
 use Rattle.faults.specs.declared.fault.Fault.TheVariants.{Making, NoPosting, CorrectionsFull}
 use Rattle.faults.proofs.Asks.{AllDecided, decided_ask, true_or_not, lt_or_not}
 use Rattle.postings.specs.declared.row.PostingRow.{PostingRow}
 use Rattle.postings.specs.Table.{lawful, all_lawful}
 use Rattle.postings.specs.Volumes.{volume_allowed, with_volume}
 use Rattle.postings.proofs.Volumes.{lawful_at}
-use Rattle.books.specs.Layers.{amend, amended, with_volume_at, among, RoomFor, allowed_at, to_correct}
+use Rattle.books.specs.declared.corrections.Corrections.{Corrections}
+use Rattle.books.specs.Books.{Posted}
+use Rattle.books.specs.Layers.{amend, amended, with_volume_at, among, RoomFor, allowed_at, to_correct, volume_at, corrected_places, layered, Noted, Corrects}
 use Rattle.books.proofs.Places.{some_below, below_some}
 
 pub length_amended : (f : ℕ → Option ℕ) (i : ℕ) (rs : List PostingRow) → length (amended f i rs) ≡ length rs
@@ -44,13 +47,12 @@ push_from f i (x ∷ rs) r =
     ap (λ (xs : List PostingRow). amend x (f i) ∷ xs)
     (push_from f (suc i) rs r ∙ ap (λ (j : ℕ). amended f (suc i) rs ++ (amend r (f j) ∷ [])) (suc-add i (length rs) ∙ sym (add-suc i (length rs))))
 
--- a row that is posted enters uncorrected, and the others stay
-pub amended_push : (f g : ℕ → Option ℕ) (rs : List PostingRow) (r : PostingRow) (p : ℕ) → p ≡ length rs → ((x : PostingRow) → amend x (g p) ≡ x) → ((q : ℕ) → eqb q p ≡ false → g q ≡ f q) → amended g 0 (rs ++ (r ∷ [])) ≡ amended f 0 rs ++ (r ∷ [])
-amended_push f g rs r p e here others =
-    push_from g 0 rs r
-    ∙ (ap (λ (j : ℕ). amended g 0 rs ++ (amend r (g j) ∷ [])) (zero-add (length rs) ∙ sym e)
-    ∙ (ap (λ (x : PostingRow). amended g 0 rs ++ (x ∷ [])) (here r)
-    ∙ ap (λ (xs : List PostingRow). xs ++ (r ∷ [])) (same_from g f 0 rs (λ k a b. others k (ne_eqb k p (λ same. omega arith))))))
+-- a row that is posted where no place is corrected enters as it is, and the others stay
+pub amended_push : (f : ℕ → Option ℕ) (rs : List PostingRow) (r : PostingRow) → f (length rs) ≡ None → amended f 0 (rs ++ (r ∷ [])) ≡ amended f 0 rs ++ (r ∷ [])
+amended_push f rs r here =
+    push_from f 0 rs r
+    ∙ (ap (λ (j : ℕ). amended f 0 rs ++ (amend r (f j) ∷ [])) (zero-add (length rs))
+    ∙ ap (λ (o : Option ℕ). amended f 0 rs ++ (amend r o ∷ [])) here)
 
 -- no correction changes nothing
 pub amended_none : (f : ℕ → Option ℕ) (i : ℕ) (rs : List PostingRow) → ((k : ℕ) → f k ≡ None) → amended f i rs ≡ rs
@@ -115,6 +117,20 @@ pub allowed_there : (f : ℕ → Option ℕ) (rs : List PostingRow) (p v : ℕ) 
 allowed_there f rs p v r e =
     ap (λ (o : Option PostingRow). allowed_at o v) (sym (at_some f rs p r (amend r (f p)) (f p) e refl refl)) ∙ allowed_amend r (f p) v
 
+-- what a correction at a posting's place, with a volume that its kind allows, does to the layer
+pub layered_noted : (old new : Corrections) (rs : List PostingRow) (p v : ℕ) (r : PostingRow) (answer : Result (Unit {0}) Fault) → Some r ≡ slice_get rs p → volume_allowed r v ≡ true → Noted old p v answer new
+    → Corrects (layered old rs) (corrected_places old) p v answer (layered new rs) (corrected_places new)
+layered_noted old new rs p v r (Ok _) at allows n = record {
+  met = (posting_there (volume_at old) rs p r at, (allowed_there (volume_at old) rs p v r at ∙ allows, (n.room, tt)));
+  after = replaced (volume_at old) (volume_at new) p v rs r (sym at) allows n.volumes;
+  places = n.places;
+}
+layered_noted old new rs p v r (Err fault) at allows n = record {
+  refused = inr (posting_there (volume_at old) rs p r at, inr (allowed_there (volume_at old) rs p v r at ∙ allows, inl (n.value, n.room)));
+  same = ap (λ (c : Corrections). layered c rs) n.same;
+  places = ap corrected_places n.same;
+}
+
 -- a correction has one answer
 room_or_not : (ps : List ℕ) (p : ℕ) → RoomFor ps p ⊎ (RoomFor ps p → ⊥)
 room_or_not ps p =
@@ -125,3 +141,12 @@ correcting_decided rs ps p v = (
   decided_ask NoPosting _ (lt_or_not p (length rs)),
   (decided_ask (Making Volume) _ (true_or_not (allowed_at (slice_get rs p) v)), (decided_ask CorrectionsFull _ (room_or_not ps p), tt)),
 )
+
+-- what a post does to the lower list it does to the layer's
+pub layered_posted : (f : ℕ → Option ℕ) (rs new : List PostingRow) (largest : ℕ) (r : PostingRow) (answer : Result ℕ Fault) → f (length rs) ≡ None → Posted rs largest r answer new → Posted (amended f 0 rs) largest r answer (amended f 0 new)
+layered_posted f rs new largest r (Ok place) here p = record {
+  met = simp length_amended p.met;
+  value = p.value ∙ sym (length_amended f 0 rs);
+  after = ap (amended f 0) p.after ∙ amended_push f rs r here;
+}
+layered_posted f rs new largest r (Err fault) here p = record { refused = simp length_amended p.refused; same = ap (amended f 0) p.same }

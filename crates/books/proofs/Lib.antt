@@ -1,4 +1,4 @@
 pub mod Rolls
 pub mod Places
-mod Marks
 pub mod Amends
+mod Marks

@@ -1,5 +1,5 @@
 -- The entries of a list by their places, as a book answers them.
-use Rattle.std.proofs.Common.{◌≡◌, ℕ, zero, suc, ◌+◌, ◌<◌, List, [], ◌∷◌, ◌++◌, length, take, Some, None, refl, ap, add-one, arith}
+use Rattle.std.proofs.Common.{◌≡◌, ℕ, zero, suc, ◌+◌, ◌<◌, ◌≤◌, List, [], ◌∷◌, ◌++◌, length, take, drop, Some, None, refl, ap, add-one, arith}
 use Rattle.std.specs.List.{slice_get}
 
 module _ {X : Type 0} where
@@ -28,3 +28,28 @@ module _ {X : Type 0} where
   -- one entry more
   pub take_place : (xs : List X) (i : ℕ) (x : X) → Some x ≡ slice_get xs i → take (i + 1) xs ≡ take i xs ++ (x ∷ [])
   take_place xs i x e = rw add-one (take_suc xs i x e)
+
+  drop_suc : (xs : List X) (i : ℕ) (x : X) → Some x ≡ slice_get xs i → drop i xs ≡ x ∷ drop (suc i) xs
+  drop_suc [] i x e = let z : ◌≡◌ {A = ℕ} 0 1 = cc in absurd (omega arith)
+  drop_suc (y ∷ xs) zero x e = let q : y ≡ x = cc in ap (λ (z : X). z ∷ xs) q
+  drop_suc (y ∷ xs) (suc i) x e = drop_suc xs i x e
+
+  -- the entries from a place on, the first apart
+  pub drop_place : (xs : List X) (i : ℕ) (x : X) → Some x ≡ slice_get xs i → drop i xs ≡ x ∷ drop (i + 1) xs
+  drop_place xs i x e = rw add-one (drop_suc xs i x e)
+
+  drop_first : (xs ys : List X) (i : ℕ) (x : X) → drop i xs ≡ x ∷ ys → (Some x ≡ slice_get xs i) × (drop (suc i) xs ≡ ys)
+  drop_first [] ys zero x e = let z : ◌≡◌ {A = ℕ} 0 1 = cc in absurd (omega arith)
+  drop_first [] ys (suc i) x e = let z : ◌≡◌ {A = ℕ} 0 1 = cc in absurd (omega arith)
+  drop_first (y ∷ xs) ys zero x e = (cc, cc)
+  drop_first (y ∷ xs) ys (suc i) x e = drop_first xs ys i x e
+
+  -- the first of the entries from a place on is the one at that place, and the others follow it
+  pub first_place : (xs ys : List X) (i : ℕ) (x : X) → drop i xs ≡ x ∷ ys → (Some x ≡ slice_get xs i) × (drop (i + 1) xs ≡ ys)
+  first_place xs ys i x e = rw add-one (drop_first xs ys i x e)
+
+  -- where no entry is left, the places are all
+  pub no_place : (xs : List X) (i : ℕ) → drop i xs ≡ [] → length xs ≤ i
+  no_place [] i e = omega arith
+  no_place (x ∷ xs) zero e = let z : ◌≡◌ {A = ℕ} 0 1 = cc in absurd (omega arith)
+  no_place (x ∷ xs) (suc i) e = let h : length xs ≤ i = no_place xs i e in omega arith

@@ -1,15 +1,16 @@
 -- What opening a day and posting through it ask and answer.
-use Rattle.std.specs.Prelude.{◌≡◌, ℕ, ◌<◌, ◌≤◌, List, [], ◌∷◌, ◌++◌, length, Ok, Err, Result}
+use Rattle.std.specs.Prelude.{◌≡◌, ℕ, ◌<◌, List, [], ◌∷◌, ◌++◌, length, Ok, Err, Result}
 use Rattle.faults.specs.declared.fault.Fault.{Fault}
-use Rattle.faults.specs.declared.fault.Fault.TheVariants.{MemberCount, NotMember}
+use Rattle.faults.specs.declared.fault.Fault.TheVariants.{NotMember}
 use Rattle.faults.specs.Asks.{Ask, ask, Met, Refused}
+use Rattle.faults.specs.Members.{ask_count}
 use Rattle.postings.specs.declared.row.PostingRow.{PostingRow}
 use Rattle.books.specs.declared.day.OpenDay.{OpenDay}
 use Rattle.books.specs.Books.{to_post}
 
 -- a day has 1 to 64 members
 abbrev pub to_open : ℕ → List (Ask Fault)
-to_open members = ask MemberCount ((1 ≤ members) × (members ≤ 64)) ∷ []
+to_open members = ask_count members ∷ []
 
 pub record Opens (members : ℕ) (day : OpenDay) : Type 0 where
   pub met : Met (to_open members)

@@ -1,7 +1,8 @@
 -- The correction layer: what its corrections say, the list that it shows, and what correcting asks and answers.
-use Rattle.std.specs.Prelude.{◌≡◌, ℕ, zero, suc, ◌<◌, Bool, true, false, cond, ◌||◌, ◌⊎◌, List, [], ◌∷◌, ◌++◌, length, take, Some, None, Ok, Err, Option, Result, ◌==◌, nat_eq}
-use Rattle.std.specs.Map.{lookup, update}
-use Rattle.std.specs.List.{slice_get, zip}
+use Rattle.std.specs.Prelude.{◌≡◌, ℕ, zero, suc, ◌<◌, Bool, true, false, cond, ◌||◌, ◌⊎◌, List, [], ◌∷◌, ◌++◌, length, map, Some, None, Ok, Err, Option, Result, ◌==◌, nat_eq}
+use Rattle.std.specs.Map.{update}
+use Rattle.std.specs.List.{slice_get, find}
+use Rattle.std.specs.Option.{option_map}
 use Rattle.faults.specs.declared.making.MakingFault.TheVariants.{Volume}
 use Rattle.faults.specs.declared.fault.Fault.{Fault}
 use Rattle.faults.specs.declared.fault.Fault.TheVariants.{Making, NoPosting, CorrectionsFull}
@@ -12,11 +13,11 @@ use Rattle.books.specs.declared.corrections.Corrections.{Corrections}
 
 -- the places that are corrected, in the order in which they first were
 abbrev pub corrected_places : Corrections → List ℕ
-corrected_places c = take c.used c.places
+corrected_places c = map (λ e. e.place) c.entries.items
 
 -- the latest volume at a place
 abbrev pub volume_at : Corrections → ℕ → Option ℕ
-volume_at c place = lookup (nat_eq place) (zip (corrected_places c) (take c.used c.volumes))
+volume_at c place = option_map (λ e. e.volume) (find (λ e. e.place == place) c.entries.items)
 
 -- a row at the volume noted for its place, where its kind allows it
 abbrev pub amend : PostingRow → Option ℕ → PostingRow
@@ -79,32 +80,18 @@ abbrev pub Corrects : List PostingRow → List ℕ → ℕ → ℕ → Result (U
 Corrects list marked place volume (Ok _) new new_marked = Replaces list marked place volume new new_marked
 Corrects list marked place volume (Err fault) new new_marked = NotReplaced list marked place volume fault new new_marked
 
--- the place stands first at index i of a list
-abbrev pub Hit : ℕ → List ℕ → ℕ → Type 0
-Hit place [] i = ⊥
-Hit place (x ∷ xs) zero = (place == x) ≡ true
-Hit place (x ∷ xs) (suc i) = ((place == x) ≡ false) × Hit place xs i
-
--- the place is not in a list
-abbrev pub Missing : ℕ → List ℕ → Type 0
-Missing place [] = Unit {0}
-Missing place (x ∷ xs) = ((place == x) ≡ false) × Missing place xs
-
--- where a place stands first among the corrected ones, if it does
-abbrev pub Stands : Corrections → ℕ → Option ℕ → Type 0
-Stands c place (Some i) = (i < c.used) × Hit place (corrected_places c) i
-Stands c place None = Missing place (corrected_places c)
-
 -- a volume is noted at a place, or there is no room for the place
 pub record Notes (old : Corrections) (place volume : ℕ) (new : Corrections) : Type 0 where
   pub room : RoomFor (corrected_places old) place
   pub places : corrected_places new ≡ joined (corrected_places old) place
   pub volumes : (q : ℕ) → volume_at new q ≡ update nat_eq (volume_at old) place (Some volume) q
 
-pub record Crowded (old : Corrections) (place : ℕ) (new : Corrections) : Type 0 where
+pub record Crowded (old : Corrections) (place : ℕ) (fault : Fault) (new : Corrections) : Type 0 where
   pub room : RoomFor (corrected_places old) place → ⊥
+  pub value : fault ≡ CorrectionsFull
   pub same : new ≡ old
 
-abbrev pub Noted : Corrections → ℕ → ℕ → Bool → Corrections → Type 0
-Noted old place volume true new = Notes old place volume new
-Noted old place volume false new = Crowded old place new
+-- the corrections, a place and a volume, the answer, and the corrections then
+abbrev pub Noted : Corrections → ℕ → ℕ → Result (Unit {0}) Fault → Corrections → Type 0
+Noted old place volume (Ok _) new = Notes old place volume new
+Noted old place volume (Err fault) new = Crowded old place fault new

@@ -1,6 +1,7 @@
 //! The correction layer over any book.
 
-ghost use Rattle.std.specs.Prelude.{◌≡◌, []};
+ghost use Rattle.std.specs.Prelude.{◌≡◌, ◌<◌, [], length};
+ghost use Rattle.std.specs.List.{All};
 ghost use Rattle.books.specs.Books.{Posted};
 ghost use Rattle.books.specs.Layers.{corrected_places, layered, Corrects};
 
@@ -11,9 +12,10 @@ use postings::Posting;
 
 /// A book with up to 32 corrections, which are seen through the layer alone.
 #[derive(Drop)]
-pub struct Corrected<B> {
+pub struct Corrected<B: Book> {
     lower: B,
     corrections: Corrections,
+    ghost below: { All (λ place. place < length (B.Book.list lower)) (corrected_places corrections) },
 }
 
 impl<B: Book> Corrected<B> {
@@ -32,17 +34,13 @@ impl<B: Book> Corrected<B> {
         ensures cases { Corrects (layered self.old.corrections (B.Book.list self.old.lower)) (corrected_places self.old.corrections) place volume result (layered self.new.corrections (B.Book.list self.new.lower)) (corrected_places self.new.corrections) }
         ensures lower { self.new.lower ≡ self.old.lower }
     {
-        let posting = match self.lower.at(place) {
-            Some(posting) => posting,
-            None => return Err(Fault::NoPosting),
+        let Some(posting) = self.lower.at(place) else {
+            return Err(Fault::NoPosting);
         };
         if !posting.allows_volume(volume) {
             return Err(Fault::Making(MakingFault::Volume));
         }
-        if !self.corrections.note(place, volume) {
-            return Err(Fault::CorrectionsFull);
-        }
-        Ok(())
+        self.corrections.note(place, volume)
     }
 
     /// Ends the layer and hands the lower book back, as the layer holds it.
@@ -67,10 +65,7 @@ impl<B: Book> Book for Corrected<B> {
     }
 
     fn at(&self, place: usize) -> Option<Posting> {
-        let posting = match self.lower.at(place) {
-            Some(posting) => posting,
-            None => return None,
-        };
+        let posting = self.lower.at(place)?;
         match self.corrections.volume_at(place) {
             Some(volume) => Some(posting.at_volume(volume)),
             None => Some(posting),
@@ -85,13 +80,6 @@ impl<B: OpenBook> OpenBook for Corrected<B> {
         ensures lower { Posted (B.Book.list self.old.lower) (B.Book.largest self.old.lower) posting.row result (B.Book.list self.new.lower) }
         ensures places { corrected_places self.new.corrections ≡ corrected_places self.old.corrections }
     {
-        match self.lower.post(posting) {
-            Ok(place) => {
-                // places are corrected below the count only, so none stands here; but no type can state that of every lower book
-                self.corrections.clear(place);
-                Ok(place)
-            }
-            Err(fault) => Err(fault),
-        }
+        self.lower.post(posting)
     }
 }

@@ -1,14 +1,18 @@
 //! The corrections of a layer: up to 32 places, each with its latest volume.
 
-ghost use Rattle.std.specs.Prelude.{◌≤◌};
+use arrayvec::ArrayVec;
 
 mod calls;
 
-/// The first `used` places, and beside each its volume.
-#[derive(Clone, Copy)]
+/// A corrected place and its latest volume.
+#[derive(Clone, Copy, PartialEq, Eq, Debug, Default)]
+pub struct Correction {
+    pub place: usize,
+    pub volume: u32,
+}
+
+/// One correction for each corrected place, in the order in which the places first were.
+#[derive(Drop)]
 pub struct Corrections {
-    places: [usize; 32],
-    volumes: [u32; 32],
-    used: usize,
-    ghost fits: { used ≤ 32 },
+    entries: ArrayVec<Correction, 32>,
 }

@@ -55,12 +55,8 @@ impl<'a> Book for RowsBook<'a> {
     }
 
     fn at(&self, place: usize) -> Option<Posting> {
-        let row = self.roll.at(place)?;
-        match Posting::make(row) {
-            Ok(posting) => Some(posting),
-            // never: every row of the roll is lawful
-            Err(_) => None,
-        }
+        // never refused: every row of the roll is lawful
+        Posting::make(self.roll.at(place)?).ok()
     }
 }
 
@@ -71,9 +67,6 @@ impl<'a> OpenBook for RowsBook<'a> {
         ensures slots { slots self.new.roll ≡ written (slots self.old.roll) posting.row result }
         ensures memory { self.new.roll.slots.ghost_name ≡ self.old.roll.slots.ghost_name }
     {
-        match self.roll.push(posting.row()) {
-            Some(place) => Ok(place),
-            None => Err(Fault::BookFull),
-        }
+        self.roll.push(posting.row()).ok_or(Fault::BookFull)
     }
 }

@@ -1,2 +1,2 @@
 mod Correcting
-mod Counting
+mod Posting

@@ -6,11 +6,6 @@ use Rattle.postings.specs.declared.row.PostingRow.{PostingRow}
 abbrev pub one_of : ℕ → PostingRow → ℕ
 one_of code r = cond (r.kind == code) 1 0
 
--- no row counts 0
-abbrev pub one_at : ℕ → Option PostingRow → ℕ
-one_at code (Some r) = one_of code r
-one_at code None = 0
-
 -- how many rows have the kind's code
 abbrev pub count_of : ℕ → List PostingRow → ℕ
 count_of code [] = 0

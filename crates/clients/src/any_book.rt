@@ -3,9 +3,9 @@
 ghost use Rattle.std.specs.Prelude.{◌≡◌, ◌≤◌};
 ghost use Rattle.postings.specs.Volumes.{at_volume};
 ghost use Rattle.books.specs.Books.{row_of};
-ghost use Rattle.clients.specs.Lists.{one_at, count_of, where_room};
+ghost use Rattle.clients.specs.Lists.{count_of, where_room};
 
-use books::{Book, Corrected, OpenBook};
+use books::{Book, Corrected, OpenBook, Postings};
 use postings::Posting;
 
 /// A place asked for twice, with the same answer.
@@ -20,8 +20,10 @@ pub fn count_of<B: Book>(book: &B, code: u8) -> usize
     ensures value { result ≡ count_of code (B.Book.list book.now) }
 {
     let mut count = 0;
-    for place in 0..book.count() {
-        count += one_at(book.at(place), code);
+    for posting in Postings::of(book) {
+        if posting.row().kind == code {
+            count += 1;
+        }
     }
     count
 }
@@ -30,10 +32,8 @@ pub fn count_of<B: Book>(book: &B, code: u8) -> usize
 pub fn read_back<B: OpenBook>(book: &mut B, posting: Posting) -> Option<Posting>
     ensures value { row_of result ≡ where_room (B.Book.list book.old) (B.Book.largest book.old) posting.row }
 {
-    match book.post(posting) {
-        Ok(place) => book.at(place),
-        Err(_) => None,
-    }
+    let place = book.post(posting).ok()?;
+    book.at(place)
 }
 
 /// The same through a layer, which corrects the posting before it is read.
@@ -45,13 +45,9 @@ pub fn read_back_corrected<B: OpenBook>(
     ensures value { row_of result ≡ where_room (B.Book.list book.old) (B.Book.largest book.old) (at_volume posting.row volume) }
 {
     let mut layer = Corrected::new(book);
-    match layer.post(posting) {
-        Ok(place) => {
-            let _ = layer.correct(place, volume);
-            layer.at(place)
-        }
-        Err(_) => None,
-    }
+    let place = layer.post(posting).ok()?;
+    let _ = layer.correct(place, volume);
+    layer.at(place)
 }
 
 /// The same through a layer over a layer.
@@ -60,15 +56,4 @@ pub fn read_back_above<B: OpenBook>(book: &mut B, posting: Posting, volume: u32)
 {
     let mut lower = Corrected::new(book);
     read_back_corrected(&mut lower, posting, volume)
-}
-
-/// 1 for a posting with the kind's code, else 0.
-fn one_at(posting: Option<Posting>, code: u8) -> usize
-    ensures value { result ≡ one_at code (row_of posting) }
-    ensures bound { result ≤ 1 }
-{
-    match posting {
-        Some(posting) => if posting.row().kind == code { 1 } else { 0 },
-        None => 0,
-    }
 }

@@ -11,10 +11,7 @@ use postings::Posting;
 pub fn members_of_day(members: usize) -> usize
     ensures value { result ≡ (if nat_le members 64 then members else 0) }
 {
-    match OpenDay::open(members) {
-        Ok(day) => day.members(),
-        Err(_) => 0,
-    }
+    OpenDay::open(members).map_or(0, |day| day.members())
 }
 
 /// A posting of no member of the day is refused by every book, and its list stays.

@@ -18,20 +18,14 @@ fn injection(member: u8, volume: u32) -> PostingRow {
     }
 }
 
-/// The number of a refusal, or 0.
-fn number<T: Drop>(answer: Result<T, Fault>) -> u8 {
-    match answer {
-        Ok(_) => 0,
-        Err(fault) => fault.number(),
-    }
+/// The number of a refusal.
+fn number<T: Drop>(answer: Result<T, Fault>) -> Option<u8> {
+    answer.err().map(|fault| fault.number())
 }
 
-/// The volume at a place, or 0.
-fn volume_at<B: Book>(book: &B, place: usize) -> u32 {
-    match book.at(place) {
-        Some(posting) => posting.row().volume,
-        None => 0,
-    }
+/// The volume at a place.
+fn volume_at<B: Book>(book: &B, place: usize) -> Option<u32> {
+    Some(book.at(place)?.row().volume)
 }
 
 #[test]
@@ -45,15 +39,15 @@ fn corrects_32_places(rt: HostRuntime) {
         }
     }
     for place in 0..32 {
-        assert_eq!(rt; number(layer.correct(place, 9)), 0);
+        assert_eq!(rt; number(layer.correct(place, 9)), None);
     }
-    assert_eq!(rt; number(layer.correct(32, 9)), 9);
-    assert_eq!(rt; number(layer.correct(5, 10)), 0);
-    assert_eq!(rt; volume_at(&layer, 5), 10);
-    assert_eq!(rt; volume_at(&layer, 6), 9);
-    assert_eq!(rt; volume_at(&layer, 32), 7);
-    assert_eq!(rt; number(layer.correct(33, 0)), 8);
-    assert_eq!(rt; number(layer.correct(32, 10_001)), 3);
+    assert_eq!(rt; number(layer.correct(32, 9)), Some(9));
+    assert_eq!(rt; number(layer.correct(5, 10)), None);
+    assert_eq!(rt; volume_at(&layer, 5), Some(10));
+    assert_eq!(rt; volume_at(&layer, 6), Some(9));
+    assert_eq!(rt; volume_at(&layer, 32), Some(7));
+    assert_eq!(rt; number(layer.correct(33, 0)), Some(8));
+    assert_eq!(rt; number(layer.correct(32, 10_001)), Some(3));
 }
 
 #[test]
@@ -62,13 +56,13 @@ fn posts_members_only(rt: HostRuntime) -> Result<(), Fail> {
     let mut book = RowsBook::new(&mut rows);
     let day = OpenDay::open(2)?;
     if let Ok(stranger) = Posting::make(injection(2, 7)) {
-        assert_eq!(rt; number(day.post(&mut book, stranger)), 6);
+        assert_eq!(rt; number(day.post(&mut book, stranger)), Some(6));
     }
     if let Ok(posting) = Posting::make(injection(1, 7)) {
-        assert_eq!(rt; number(day.post(&mut book, posting)), 0);
-        assert_eq!(rt; number(day.post(&mut book, posting)), 7);
+        assert_eq!(rt; number(day.post(&mut book, posting)), None);
+        assert_eq!(rt; number(day.post(&mut book, posting)), Some(7));
     }
     assert_eq!(rt; book.count(), 1);
-    assert_eq!(rt; number(OpenDay::open(65)), 10);
+    assert_eq!(rt; number(OpenDay::open(65)), Some(10));
     Ok(())
 }

@@ -3,7 +3,6 @@
 
 mod fault;
 mod making;
-mod words;
 
 pub use fault::Fault;
 pub use making::MakingFault;

@@ -1,4 +1,6 @@
+pub mod Made
 pub mod Adding
+pub mod Cells
 pub mod Hours
 pub mod Tenths
 pub mod Best

@@ -1,11 +1,10 @@
 //! The grid of imbalances.
 
-ghost use Rattle.std.specs.Prelude.{◌≡◌, ◌≤◌, unsigned_abs};
-ghost use Rattle.postings.specs.Bounds.{Bounds};
+ghost use Rattle.std.specs.Prelude.{◌≡◌, ◌≤◌, pos, ◌+ℤ◌, unsigned_abs, slice_index_or, EachIndex};
 ghost use Rattle.gathering.specs.Figures.{Roomy};
 ghost use Rattle.gathering.specs.Rules.{effect, Shifted};
 
-use postings::{Kind, Posting, PostingRow};
+use postings::{Kind, Posting};
 
 /// What a posting adds to its member's imbalance in each hour that it covers.
 fn effect_of(posting: &Posting) -> i64
@@ -21,21 +20,25 @@ fn effect_of(posting: &Posting) -> i64
     }
 }
 
-/// Adds kWh in each hour that a row covers; the member m's imbalance in the hour h stands at 24 × m + h.
-fn shift(grid: &mut [i64; 1536], row: PostingRow, kwh: i64)
-    requires { Bounds row × (unsigned_abs kwh ≤ 1000000) × Roomy grid.old }
-    ensures after { Shifted row kwh grid.old grid.new }
+/// Adds kWh in each of some cells.
+fn add_each(cells: &mut [i64], kwh: i64)
+    requires { (unsigned_abs kwh ≤ 1000000) × Roomy cells.old }
+    ensures after { EachIndex cells.old (λ k. slice_index_or cells.new k (pos 0) ≡ slice_index_or cells.old k (pos 0) +ℤ kwh) }
 {
-    let from = 24 * row.member as usize;
-    for hour in row.first as usize..row.last as usize + 1 {
-        grid[from + hour] += kwh;
+    for cell in cells.iter_mut() {
+        *cell += kwh;
     }
 }
 
-/// Adds what a posting adds.
-pub(crate) fn shift_by(grid: &mut [i64; 1536], posting: &Posting)
+/// Adds what a posting adds, in each hour that it covers; the member m's imbalance in the hour h stands at 24 × m + h.
+pub(crate) fn shift(grid: &mut [i64; 1536], posting: &Posting)
     requires { Roomy grid.old }
     ensures after { Shifted posting.now.row (effect posting.now.row) grid.old grid.new }
 {
-    shift(grid, posting.row(), effect_of(posting));
+    let row = posting.row();
+    let day = 24 * usize::from(row.member);
+    add_each(
+        &mut grid[day + usize::from(row.first)..=day + usize::from(row.last)],
+        effect_of(posting),
+    );
 }

@@ -11,6 +11,8 @@ mod kinds;
 mod lines;
 mod offers;
 mod orders;
+mod sides;
+mod tallies;
 mod tally;
 
 pub use figures::gather;

@@ -1,27 +1,26 @@
 -- What comes of a day that was typed.
-use Rattle.std.specs.Prelude.{◌≡◌, ℕ, ◌+◌, ◌<◌, ◌≤◌, List, [], ◌∷◌, length, take, drop, Ok, Err, Result, slice_set}
+use Rattle.std.specs.Prelude.{◌≡◌, ℕ, ◌<◌, ◌≤◌, List, [], ◌∷◌, ◌++◌, length, take, drop, Ok, Err, Result}
 use Rattle.faults.specs.declared.fault.Fault.{Fault}
 use Rattle.faults.specs.declared.fault.Fault.TheVariants.{PriceCount, PriceAt}
 use Rattle.faults.specs.Asks.{Ask, ask, Met, Refused}
 use Rattle.images.specs.Checking.{to_check}
-use Rattle.image.specs.declared.day.Prices.{Prices}
 
 -- an hour has no price yet, and the price is at most 500,000
-abbrev pub to_push : Prices → ℕ → List (Ask Fault)
-to_push old price = ask PriceCount (old.count < 24) ∷ ask (PriceAt old.count) (price ≤ 500000) ∷ []
+abbrev pub to_push : List ℕ → ℕ → List (Ask Fault)
+to_push old price = ask PriceCount (length old < 24) ∷ ask (PriceAt (length old)) (price ≤ 500000) ∷ []
 
 -- the price is that of the next hour
-pub record Pushes (old : Prices) (price : ℕ) (new : Prices) : Type 0 where
+pub record Pushes (old : List ℕ) (price : ℕ) (new : List ℕ) : Type 0 where
   pub met : Met (to_push old price)
-  pub hours : new.hours ≡ slice_set old.hours old.count price
-  pub count : new.count ≡ old.count + 1
+  pub after : new ≡ old ++ (price ∷ [])
 
 -- the prices stay as they were
-pub record NotPushed (old : Prices) (price : ℕ) (fault : Fault) (new : Prices) : Type 0 where
+pub record NotPushed (old : List ℕ) (price : ℕ) (fault : Fault) (new : List ℕ) : Type 0 where
   pub refused : Refused (to_push old price) fault
   pub same : new ≡ old
 
-abbrev pub Pushed : Prices → ℕ → Result (Unit {0}) Fault → Prices → Type 0
+-- the prices so far, one more, the answer, and the prices then
+abbrev pub Pushed : List ℕ → ℕ → Result (Unit {0}) Fault → List ℕ → Type 0
 Pushed old price (Ok _) new = Pushes old price new
 Pushed old price (Err fault) new = NotPushed old price fault new
 

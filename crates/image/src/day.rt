@@ -1,73 +1,58 @@
 //! A day as it is typed.
 
-ghost use Rattle.std.specs.Prelude.{◌≤◌, length};
 ghost use Rattle.image.specs.Typed.{Pushed, Imaged};
 
 use super::words::{price_of, row_of};
+use arrayvec::ArrayVec;
 use books::{OpenBook, RowsBook};
 use faults::Fault;
 use images::write_image;
-use postings::{Posting, PostingRow};
+use postings::{HIGHEST_PRICE, MOST_POSTINGS, Posting, PostingRow};
 use std::str::from_utf8;
+use thiserror::Error;
 
 /// The longest text that is read.
 pub const MOST_TEXT: usize = 1_048_576;
 
 const HOURS: usize = 24;
 
-const MOST_POSTINGS: usize = 2048;
-
-const BLANK: PostingRow = PostingRow {
-    kind: 0,
-    member: 0,
-    first: 0,
-    last: 0,
-    volume: 0,
-    price: 0,
-    label: 0,
-};
-
 /// The first line that is refused, counted from 1, and why.
-#[derive(Clone, Copy)]
+#[derive(Clone, Copy, PartialEq, Eq, Debug, Error)]
+#[error("line {line}: {fault}")]
 pub struct Refusal {
     pub line: usize,
     pub fault: Fault,
 }
 
 /// The market prices typed so far.
-#[derive(Clone, Copy)]
+#[derive(Drop)]
 struct Prices {
-    hours: [u32; HOURS],
-    count: usize,
+    hours: ArrayVec<u32, HOURS>,
 }
 
 impl Prices {
     fn is_complete(&self) -> bool {
-        self.count >= HOURS
+        self.hours.is_full()
     }
 
     /// Takes the price of the next hour.
     fn push(&mut self, price: u32) -> Result<(), Fault>
-        ensures cases { Pushed self.old price result self.new }
+        ensures cases { Pushed self.old.hours.items price result self.new.hours.items }
     {
-        let hour = self.count;
-        if hour >= HOURS {
+        if self.hours.is_full() {
             return Err(Fault::PriceCount);
         }
-        if price > 500_000 {
-            return Err(Fault::PriceAt(hour));
+        if price > HIGHEST_PRICE {
+            return Err(Fault::PriceAt(self.hours.len()));
         }
-        self.hours[hour] = price;
-        self.count = hour + 1;
+        self.hours.push(price);
         Ok(())
     }
 
     /// Takes one price for every hour that is left.
     fn fill(&mut self, price: u32) -> Result<(), Fault> {
-        for _ in 0..HOURS {
-            if !self.is_complete() {
-                self.push(price)?;
-            }
+        for _ in self.hours.len()..HOURS {
+            self.push(price)?;
         }
         Ok(())
     }
@@ -90,18 +75,17 @@ pub fn image_of(text: &[u8], image: &mut [u8]) -> Result<usize, Refusal>
 {
     if text.len() > MOST_TEXT {
         return Err(Refusal {
-            line: lines_in(text),
+            line: line_past(text),
             fault: Fault::NoRoom,
         });
     }
     let mut prices = Prices {
-        hours: [0; HOURS],
-        count: 0,
+        hours: ArrayVec::new(),
     };
-    let mut rows = [BLANK; MOST_POSTINGS];
+    let mut rows = [PostingRow::default(); MOST_POSTINGS];
     let mut book = RowsBook::new(&mut rows);
     let line = take_lines(text, &mut prices, &mut book)?;
-    match write_image(&prices.hours, &book, image) {
+    match write_image(prices.hours.as_slice(), &book, image) {
         Ok(length) => Ok(length),
         Err(fault) => Err(Refusal { line, fault }),
     }
@@ -113,16 +97,13 @@ fn take_lines<B: OpenBook>(
     prices: &mut Prices,
     book: &mut B,
 ) -> Result<usize, Refusal> {
-    let mut line = 1;
-    let mut start = 0;
-    while start < text.len() {
-        let end = line_end(text, start);
-        match take_line(&text[start..end], prices, book) {
-            Ok(()) => {}
-            Err(fault) => return Err(Refusal { line, fault }),
+    let mut line: usize = 1;
+    for typed in text.split_inclusive(|byte| *byte == b'\n') {
+        if let Err(fault) = take_line(typed, prices, book) {
+            return Err(Refusal { line, fault });
         }
-        line += 1;
-        start = end + 1;
+        // never at the top: each line has a byte
+        line = line.saturating_add(1);
     }
     if prices.is_complete() {
         Ok(line)
@@ -134,29 +115,9 @@ fn take_lines<B: OpenBook>(
     }
 }
 
-/// How many lines a text has, the one that it ends in included.
-fn lines_in(text: &[u8]) -> usize {
-    let mut lines = 1;
-    for byte in text {
-        if *byte == b'\n' {
-            lines += 1;
-        }
-    }
-    lines
-}
-
-/// Where a line ends: at its line feed, or at the end of the text.
-fn line_end(text: &[u8], start: usize) -> usize
-    requires { start ≤ length text.now }
-    ensures after { start ≤ result }
-    ensures within { result ≤ length text.now }
-{
-    for place in start..text.len() {
-        if text[place] == b'\n' {
-            return place;
-        }
-    }
-    text.len()
+/// The number of the line that a text ends in.
+fn line_past(text: &[u8]) -> usize {
+    text.iter().filter(|byte| **byte == b'\n').count() + 1
 }
 
 /// Takes a line: prices until there are 24, and then a posting. A blank line and one that starts with # are skipped.
@@ -176,13 +137,9 @@ fn take_line<B: OpenBook>(line: &[u8], prices: &mut Prices, book: &mut B) -> Res
 
 /// Makes the posting of a line and puts it last in the book.
 fn take_posting<B: OpenBook>(line: &str, book: &mut B) -> Result<(), Fault> {
-    match Posting::make(row_of(line)) {
-        Ok(posting) => {
-            book.post(posting)?;
-            Ok(())
-        }
-        Err(fault) => Err(Fault::Making(fault)),
-    }
+    let posting = Posting::make(row_of(line))?;
+    book.post(posting)?;
+    Ok(())
 }
 
 #[cfg(test)]
@@ -211,20 +168,18 @@ mod tests {
         ("PRICE 0\nup 64 0 0 1 0 1\n", 2, 6),
     ];
 
-    // the line that is refused and the number of its fault; noughts where there is none.
-    fn answer(text: &[u8]) -> (usize, u8) {
+    // the line that is refused and the number of its fault
+    fn answer(text: &[u8]) -> Option<(usize, u8)> {
         let mut image = [0; 200];
-        match image_of(text, &mut image) {
-            Ok(_) => (0, 0),
-            Err(refusal) => (refusal.line, refusal.fault.number()),
-        }
+        let refusal = image_of(text, &mut image).err()?;
+        Some((refusal.line, refusal.fault.number()))
     }
 
     #[test]
     fn refuses_the_first_bad_line(rt: HostRuntime) {
         for (text, line, number) in REFUSED {
-            assert_eq!(rt; answer(text.as_bytes()), (line, number));
+            assert_eq!(rt; answer(text.as_bytes()), Some((line, number)));
         }
-        assert_eq!(rt; answer(b"# \xff\nPRICE 0\n\xff\n"), (3, 1));
+        assert_eq!(rt; answer(b"# \xff\nPRICE 0\n\xff\n"), Some((3, 1)));
     }
 }

@@ -23,16 +23,15 @@ use std::io::{Read, Write};
 fn main(rt: HostRuntime) -> io::Result<()> {
     let mut text = Vec::new(rt.alloc());
     rt.stdin()
-        .take(day::MOST_TEXT as u64 + 1)
+        .take(day::MOST_TEXT as u64 + 1) // `as`: of a constant
         .read_to_end(&mut text)?;
     let mut image = [0; MOST_BYTES];
     match day::image_of(text.as_slice(), &mut image) {
-        Ok(length) => rt.stdout().write_all(&image[0..length]),
+        Ok(length) => rt.stdout().write_all(&image[..length]),
         Err(refusal) => {
             let line = refusal.line;
-            let fault = refusal.fault;
-            let number = fault.number();
-            eprintln!(rt; "line {line}: {fault}")?;
+            let number = refusal.fault.number();
+            eprintln!(rt; "{refusal}")?;
             println!(rt; "LINE {line} REFUSED {number}")
         }
     }

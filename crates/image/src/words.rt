@@ -1,9 +1,10 @@
 //! What the words of a line stand for.
 //!
 //! A word that is no number of its column is read as one that no posting has, so that making refuses it with the
-//! number of that column.
+//! number of that column. A `Result` for each word would have to ask for the columns in their order once more.
 
-use postings::PostingRow;
+use postings::{Kind, PostingRow};
+use std::str::FromStr;
 
 const NO_KIND: u8 = 0;
 
@@ -17,16 +18,18 @@ const NO_LABEL: u8 = 255;
 
 const NO_MEMBER: u8 = 255;
 
+const NO_MARKET_PRICE: u32 = u32::MAX;
+
 /// The row of a line: kind, member, first hour, last hour, volume, price, label.
 pub(crate) fn row_of(line: &str) -> PostingRow {
     let mut words = line.split_ascii_whitespace();
     let kind = kind_of(words.next());
-    let member = small(words.next(), NO_MEMBER);
-    let first = small(words.next(), NO_HOUR);
-    let last = small(words.next(), NO_HOUR);
-    let volume = volume_of(words.next());
-    let price = unit_price_of(words.next());
-    let label = small(words.next(), NO_LABEL);
+    let member = number(words.next(), NO_MEMBER);
+    let first = number(words.next(), NO_HOUR);
+    let last = number(words.next(), NO_HOUR);
+    let volume = number(words.next(), NO_VOLUME);
+    let price = number(words.next(), NO_PRICE);
+    let label = number(words.next(), NO_LABEL);
     PostingRow {
         kind,
         member,
@@ -34,56 +37,47 @@ pub(crate) fn row_of(line: &str) -> PostingRow {
         last,
         volume,
         price,
-        label: if words.next().is_some() {
-            NO_LABEL
-        } else {
-            label
-        },
+        // an eighth word breaks the last column
+        label: words.next().map_or(label, |_| NO_LABEL),
     }
 }
 
 /// A market price.
 pub(crate) fn price_of(word: &str) -> u32 {
-    match word.parse::<u32>() {
-        Ok(price) => price,
-        Err(_) => u32::MAX,
-    }
+    number(Some(word), NO_MARKET_PRICE)
 }
 
-/// A kind by its name or its code.
+/// The code of a kind by its name or its code.
 fn kind_of(word: Option<&str>) -> u8 {
-    match word {
-        Some("injection") => 1,
-        Some("withdrawal") => 2,
-        Some("hourly-purchase") => 3,
-        Some("hourly-sale") => 4,
-        Some("block-purchase") => 5,
-        Some("block-sale") => 6,
-        Some("flexible-sale") => 7,
-        Some("up") => 8,
-        Some("down") => 9,
-        _ => small(word, NO_KIND),
+    match word.and_then(kind_named) {
+        Some(kind) => u8::from(kind),
+        None => number(word, NO_KIND),
     }
 }
 
-/// A number below 256.
-fn small(word: Option<&str>, otherwise: u8) -> u8 {
+/// A kind by its name.
+fn kind_named(name: &str) -> Option<Kind> {
+    match name {
+        "injection" => Some(Kind::Injection),
+        "withdrawal" => Some(Kind::Withdrawal),
+        "hourly-purchase" => Some(Kind::HourlyPurchase),
+        "hourly-sale" => Some(Kind::HourlySale),
+        "block-purchase" => Some(Kind::BlockPurchase),
+        "block-sale" => Some(Kind::BlockSale),
+        "flexible-sale" => Some(Kind::FlexibleSale),
+        "up" => Some(Kind::Up),
+        "down" => Some(Kind::Down),
+        _ => None,
+    }
+}
+
+/// The number of a word, or another where there is no word or it is no number of that type.
+fn number<T: FromStr + Copy>(word: Option<&str>, otherwise: T) -> T
+where
+    T::Err: Drop,
+{
     match word {
-        Some(word) => word.parse::<u8>().unwrap_or(otherwise),
+        Some(word) => word.parse::<T>().unwrap_or(otherwise),
         None => otherwise,
-    }
-}
-
-fn volume_of(word: Option<&str>) -> u32 {
-    match word {
-        Some(word) => word.parse::<u32>().unwrap_or(NO_VOLUME),
-        None => NO_VOLUME,
-    }
-}
-
-fn unit_price_of(word: Option<&str>) -> i32 {
-    match word {
-        Some(word) => word.parse::<i32>().unwrap_or(NO_PRICE),
-        None => NO_PRICE,
     }
 }

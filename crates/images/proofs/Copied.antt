@@ -16,7 +16,7 @@ module _ (image old : List ℕ) (m : Met (to_check image)) where
   room_alone : (fault : Fault) → Refused (to_write (prices_in image) (rows_up_to image (count_in image)) (length old)) fault → Refused (to_copy image (length old)) fault
   room_alone fault (inl p) = absurd (p.1 (prices_length image))
   room_alone fault (inr p) =
-      ⊎_elim (λ q. absurd (q.3 (price_limited image m.1.0 q.0 q.2)))
+      ⊎_elim (λ q. absurd (q.3 (price_limited image m.1.0 q.0 (omega (arith, prices_length image)))))
       (λ q. ⊎_elim (λ r. absurd (r.1 (omega (arith, rows_length image (count_in image), m.0.few))))
       (λ r. ⊎_elim (λ s. inr (m.0, inr (m.1.0, inr (m.1.1.0, inl (s.0, λ h. s.1 (omega (arith, rows_length image (count_in image), m.0.long))))))) (λ s. absurd s.1) r.1) q.1)
       p.1

@@ -1,7 +1,7 @@
 -- Bytes laid over others, piece by piece.
-use Rattle.std.proofs.Common.{◌≡◌, ℕ, ◌+◌, ◌*◌, ◌<◌, ◌≤◌, List, [], ◌∷◌, ◌++◌, length, take, drop, sym, refl, ap, ◌∙◌, ap₂, append_assoc, add-zero, mul-le-mul_left, mul-zero, mul-suc, mul-add, arith}
+use Rattle.std.proofs.Common.{◌≡◌, ℕ, ◌+◌, ◌*◌, ◌≤◌, List, [], ◌∷◌, ◌++◌, length, take, drop, sym, refl, ap, ◌∙◌, ap₂, append_assoc, add-zero, mul-zero, mul-suc, mul-add, arith}
 use Rattle.std.specs.List.{flat_map}
-use Rattle.std.proofs.lemmas.List.{length-append, length-take-le, take-append-drop, take_at, flat_map_more}
+use Rattle.std.proofs.lemmas.List.{length-append, length-take-le, length-drop, take-append-drop, take_at}
 use Rattle.std.proofs.lemmas.Slice.{drop-append-drop}
 use Rattle.images.specs.Laying.{laid}
 
@@ -30,6 +30,12 @@ laid_is : (old : List ℕ) (at : ℕ) (xs : List ℕ) → laid old at xs ≡ tak
 unfolding laid
 laid_is old at xs = refl
 
+pub length_laid : (old : List ℕ) (at : ℕ) (xs : List ℕ) → at + length xs ≤ length old → length (laid old at xs) ≡ length old
+unfolding laid
+length_laid old at xs h =
+    length-append (take at old) (xs ++ drop (at + length xs) old)
+    ∙ omega (arith, length-take-le at old (omega arith), length-append xs (drop (at + length xs) old), length-drop (at + length xs) old)
+
 -- one piece after another
 pub laid_laid : (old : List ℕ) (at : ℕ) (xs ys : List ℕ) (next : ℕ) → next ≡ at + length xs → next + length ys ≤ length old → laid (laid old at xs) next ys ≡ laid old at (xs ++ ys)
 laid_laid old at xs ys next e h =
@@ -47,15 +53,15 @@ module _ {X : Type 0} (f : X → List ℕ) where
   length_joined w each (x ∷ xs) =
       length-append (f x) (flat_map f xs) ∙ omega (arith, each x, length_joined w each xs, mul-suc w (length xs))
 
-  -- one piece more
-  pub laid_more : (old : List ℕ) (at : ℕ) (xs more : List X) (x : X) (next : ℕ) → more ≡ xs ++ (x ∷ []) → next ≡ at + length (flat_map f xs) → next + length (f x) ≤ length old → laid (laid old at (flat_map f xs)) next (f x) ≡ laid old at (flat_map f more)
-  laid_more old at xs more x next m e h =
-      laid_laid old at (flat_map f xs) (f x) next e h ∙ ap (laid old at) (flat_map_more f [] xs x ∙ ap (flat_map f) (sym m))
-
-  -- a turn of a loop that lays the pieces of a list, each w long, from a place on
-  pub laid_turn : (w : ℕ) → ((x : X) → length (f x) ≡ w) → (old now new bytes : List ℕ) (at i : ℕ) (xs : List X) (x : X) → now ≡ laid old at (flat_map f (take i xs)) → new ≡ laid now (at + w * i) bytes → bytes ≡ f x → take (i + 1) xs ≡ take i xs ++ (x ∷ []) → i < length xs → at + w * length xs ≤ length old → new ≡ laid old at (flat_map f (take (i + 1) xs))
-  laid_turn w each old now new bytes at i xs x e t b m h room =
-      let n : length (flat_map f (take i xs)) ≡ w * i = length_joined w each (take i xs) ∙ ap (λ (k : ℕ). w * k) (length-take-le i xs (omega arith)) in
-      let more : w * (i + 1) ≤ w * length xs = mul-le-mul_left w (omega arith) in
-      t ∙ ap₂ (λ (o bs : List ℕ). laid o (at + w * i) bs) e b
-      ∙ laid_more old at (take i xs) (take (i + 1) xs) x (at + w * i) m (omega arith) (omega (arith, each x, mul-add w i 1))
+  -- a turn of a loop that lays the pieces of a list, each w long: what is left to lay goes over what was laid
+  pub laid_turn : (w : ℕ) → ((x : X) → length (f x) ≡ w) → (now new : List ℕ) (at next : ℕ) (left more : List X) (x : X) → left ≡ x ∷ more → next ≡ at + w → new ≡ laid now at (f x) → at + w * length left ≤ length now
+      → (laid new next (flat_map f more) ≡ laid now at (flat_map f left)) × (next + w * length more ≤ length new)
+  laid_turn w each now new at next left more x e h t room =
+      let long = length_joined w each more in
+      let n : length left ≡ length more + 1 = omega (arith, ap length e) in
+      let all : w * length left ≡ w * length more + w = ap (λ (k : ℕ). w * k) n ∙ omega (arith, mul-add w (length more) 1) in (
+        ap (λ (o : List ℕ). laid o next (flat_map f more)) t
+            ∙ laid_laid now at (f x) (flat_map f more) next (omega (arith, each x)) (omega arith)
+            ∙ ap (λ (xs : List X). laid now at (flat_map f xs)) (sym e),
+        omega (arith, ap length t, length_laid now at (f x) (omega (arith, each x))),
+      )

@@ -31,7 +31,7 @@ module _ (prices : List ℕ) (list : List PostingRow) (old new : List ℕ) (n : 
   pub written_opens : Writes prices list old n new → all_lawful list ≡ true → OpensAs prices list (take n new)
   written_opens w h =
       let m = w.met in
-      subst (OpensAs prices list) (sym w.after) (day_opens prices list (record { priced = m.0; limited = m.1.0; few = m.1.1.0; lawful = h }))
+      subst (OpensAs prices list) (sym w.after) (day_opens prices list (record { priced = m.0; limited = λ hour h. m.1.0 hour (omega arith); few = m.1.1.0; lawful = h }))
 
 -- an array that was nil holds the image, and is nil past it
 pub holds : (prices : List ℕ) (list : List PostingRow) (room : ℕ) (new : List ℕ) (n : ℕ) → Writes prices list (replicate room 0) n new → Holds prices list room new n

@@ -1,23 +1,21 @@
 -- What writing an image asks and answers.
-use Rattle.std.specs.Prelude.{◌≡◌, ℕ, ◌+◌, ◌-◌, ◌*◌, ◌≤◌, List, [], ◌∷◌, ◌++◌, length, take, drop, replicate, Ok, Err, Result, slice_index}
+use Rattle.std.specs.Prelude.{◌≡◌, ℕ, ◌+◌, ◌-◌, ◌*◌, ◌≤◌, List, [], ◌∷◌, ◌++◌, length, take, drop, replicate, Ok, Err, Result}
 use Rattle.faults.specs.declared.fault.Fault.{Fault}
-use Rattle.faults.specs.declared.fault.Fault.TheVariants.{PriceCount, PriceAt, ManyPostings, NoRoom}
-use Rattle.faults.specs.Asks.{Ask, ask, ask_each, Met, Refused}
+use Rattle.faults.specs.declared.fault.Fault.TheVariants.{PriceCount, ManyPostings, NoRoom}
+use Rattle.faults.specs.Asks.{Ask, ask, Met, Refused}
 use Rattle.postings.specs.declared.row.PostingRow.{PostingRow}
+use Rattle.postings.specs.Prices.{ask_prices}
 use Rattle.images.specs.Bytes.{bytes_of}
 use Rattle.images.specs.Checking.{to_check}
 
--- 24 prices, each at most 500,000
+-- 24 prices
 abbrev pub ask_count : List ℕ → Ask Fault
 ask_count prices = ask PriceCount (length prices ≡ 24)
-
-abbrev pub ask_limits : List ℕ → Ask Fault
-ask_limits prices = ask_each PriceAt 24 (λ hour. slice_index prices hour ≤ 500000)
 
 -- the prices, then at most 2,048 postings, then room for 100 bytes and 13 for each posting
 abbrev pub to_write : List ℕ → List PostingRow → ℕ → List (Ask Fault)
 to_write prices list room =
-    ask_count prices ∷ ask_limits prices ∷ ask ManyPostings (length list ≤ 2048)
+    ask_count prices ∷ ask_prices prices ∷ ask ManyPostings (length list ≤ 2048)
     ∷ ask NoRoom (100 + 13 * length list ≤ room) ∷ []
 
 -- n bytes are those of the day, and the bytes past them are as they were

@@ -1,6 +1,6 @@
 //! Numbers in an image, high byte first. A byte past the end reads as 0.
 
-ghost use Rattle.std.specs.Prelude.{◌≡◌, ◌^◌, ◌<◌, ◌≤◌};
+ghost use Rattle.std.specs.Prelude.{◌≡◌, ◌+◌, ◌^◌, ◌<◌, ◌≤◌, [], ◌∷◌};
 ghost use Rattle.images.specs.Reading.{byte as byte_at, u16_at, u32_at, i32_at, row_at};
 
 use postings::PostingRow;
@@ -9,7 +9,7 @@ use postings::PostingRow;
 fn byte(bytes: &[u8], at: usize) -> u8
     ensures value { result ≡ byte_at bytes.now at }
 {
-    if at < bytes.len() { bytes[at] } else { 0 }
+    bytes.get(at).copied().unwrap_or(0)
 }
 
 /// The number of two bytes.
@@ -17,7 +17,20 @@ pub(crate) fn u16_at(bytes: &[u8], at: usize) -> u16
     requires { at < 2 ^ 33 }
     ensures value { result ≡ u16_at bytes.now at }
 {
-    u16::from(byte(bytes, at)) * 256 + u16::from(byte(bytes, at + 1))
+    u16::from_be_bytes([byte(bytes, at), byte(bytes, at + 1)])
+}
+
+/// The four bytes from a place on.
+fn four_at(bytes: &[u8], at: usize) -> [u8; 4]
+    requires { at < 2 ^ 32 }
+    ensures value { result ≡ byte_at bytes.now at ∷ byte_at bytes.now (at + 1) ∷ byte_at bytes.now (at + 2) ∷ byte_at bytes.now (at + 3) ∷ [] }
+{
+    [
+        byte(bytes, at),
+        byte(bytes, at + 1),
+        byte(bytes, at + 2),
+        byte(bytes, at + 3),
+    ]
 }
 
 /// The number of four bytes.
@@ -25,7 +38,7 @@ pub(crate) fn u32_at(bytes: &[u8], at: usize) -> u32
     requires { at < 2 ^ 32 }
     ensures value { result ≡ u32_at bytes.now at }
 {
-    u32::from(u16_at(bytes, at)) * 65_536 + u32::from(u16_at(bytes, at + 2))
+    u32::from_be_bytes(four_at(bytes, at))
 }
 
 /// The signed number of four bytes, in two's complement.

@@ -7,10 +7,8 @@ ghost use Rattle.images.specs.Checking.{ask_frame, ask_prices, ask_postings, Che
 
 use super::bytes::{row_at, u16_at, u32_at};
 use faults::Fault;
-use postings::Posting;
-
-/// The most postings of an image.
-pub const MOST_POSTINGS: usize = 2048;
+use postings::{HIGHEST_PRICE, MOST_POSTINGS, Posting};
+use std::array;
 
 /// Whether the bytes are a day image: a fault of the frame, or else at the lowest price, or else at the lowest posting.
 pub fn check(bytes: &[u8]) -> Result<(), Fault>
@@ -22,6 +20,7 @@ pub fn check(bytes: &[u8]) -> Result<(), Fault>
 }
 
 /// The count of postings that the image states.
+#[tactic(auto, unfolding(crate::specs::Reading::count_in))]
 pub(crate) fn stated_count(bytes: &[u8]) -> usize
     ensures value { result ≡ count_in bytes.now }
 {
@@ -40,6 +39,7 @@ fn check_frame(bytes: &[u8]) -> Result<(), Fault>
 }
 
 /// The price of an hour.
+#[tactic(auto, unfolding(crate::specs::Reading::price_at))]
 fn price_at(bytes: &[u8], hour: usize) -> u32
     requires { hour ≤ 24 }
     ensures value { result ≡ price_at bytes.now hour }
@@ -47,11 +47,12 @@ fn price_at(bytes: &[u8], hour: usize) -> u32
     u32_at(bytes, 2 + 4 * hour)
 }
 
+// not the check of `postings`: the fault is the image's
 fn check_prices(bytes: &[u8]) -> Result<(), Fault>
     ensures cases { Answered (ask_prices bytes.now) result }
 {
-    for hour in 0..24 {
-        if price_at(bytes, hour) > 500_000 {
+    for (hour, price) in prices(bytes).iter().enumerate() {
+        if *price > HIGHEST_PRICE {
             return Err(Fault::ImagePriceAt(hour));
         }
     }
@@ -62,22 +63,19 @@ fn check_postings(bytes: &[u8]) -> Result<(), Fault>
     requires { count_in bytes.now ≤ 2048 }
     ensures cases { Answered (ask_postings bytes.now) result }
 {
+    // by place: the bytes past the end read as 0, so there is no slice of rows to go over
     for place in 0..stated_count(bytes) {
-        match Posting::make(row_at(bytes, place)) {
-            Ok(_) => {}
-            Err(fault) => return Err(Fault::ImagePostingAt(place, fault)),
+        if let Err(fault) = Posting::make(row_at(bytes, place)) {
+            return Err(Fault::ImagePostingAt(place, fault));
         }
     }
     Ok(())
 }
 
 /// The 24 prices that stand in the bytes.
+#[tactic(auto, unfolding(crate::specs::Reading::prices_in))]
 pub fn prices(bytes: &[u8]) -> [u32; 24]
     ensures value { result ≡ prices_in bytes.now }
 {
-    let mut out = [0; 24];
-    for hour in 0..24 {
-        out[hour] = price_at(bytes, hour);
-    }
-    out
+    array::from_fn(|hour| price_at(bytes, hour))
 }

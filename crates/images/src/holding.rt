@@ -10,6 +10,7 @@ use faults::Fault;
 pub const MOST_BYTES: usize = 26_724;
 
 /// An array that holds the image of a day, with noughts past it, and the image's length.
+// a fixed array with its length beside it: there is no heap, and the noughts past the length are promised too
 pub fn image_array<B: Book>(prices: &[u32], book: &B) -> Result<([u8; MOST_BYTES], usize), Fault>
     ensures cases { Held prices.now (B.Book.list book.now) 26724 result }
 {

@@ -14,6 +14,7 @@ use postings::Posting;
 #[derive(Drop)]
 pub struct ImageBook<'a> {
     bytes: &'a [u8],
+    // the count that the bytes state, read once
     count: usize,
     ghost few: { count ≤ 2048 },
     ghost keeps: { all_lawful (rows_up_to bytes.now count) ≡ true },
@@ -24,10 +25,9 @@ impl<'a> ImageBook<'a> {
     pub fn open(bytes: &'a [u8]) -> ImageBook<'a>
         ensures cases { Opened bytes.now (rows_up_to result.bytes.now result.count) }
     {
-        match check(bytes) {
-            Ok(()) => {}
-            Err(_) => return ImageBook { bytes, count: 0 },
-        }
+        let Ok(()) = check(bytes) else {
+            return ImageBook { bytes, count: 0 };
+        };
         let count = stated_count(bytes);
         ImageBook { bytes, count }
     }
@@ -46,10 +46,7 @@ impl<'a> Book for ImageBook<'a> {
         if place >= self.count {
             return None;
         }
-        match Posting::make(row_at(self.bytes, place)) {
-            Ok(posting) => Some(posting),
-            // never: every row is lawful
-            Err(_) => None,
-        }
+        // never refused: every row is lawful
+        Posting::make(row_at(self.bytes, place)).ok()
     }
 }

@@ -2,16 +2,14 @@
 
 ghost use Rattle.std.specs.Prelude.{◌≡◌, ◌+◌, ◌*◌, ◌≤◌, length};
 ghost use Rattle.std.specs.List.{flat_map};
-ghost use Rattle.faults.specs.Asks.{Answered};
 ghost use Rattle.images.specs.Bytes.{u32_of, row_bytes, bytes_of};
 ghost use Rattle.images.specs.Laying.{laid};
-ghost use Rattle.images.specs.Writing.{ask_limits, Written};
+ghost use Rattle.images.specs.Writing.{Written};
 ghost use Rattle.images.specs.Laws.{Opens};
 
-use super::checks::MOST_POSTINGS;
-use books::Book;
+use books::{Book, Postings};
 use faults::Fault;
-use postings::PostingRow;
+use postings::{MOST_POSTINGS, PostingRow, check_prices};
 
 /// Puts bytes over those of the host from a place on.
 fn put(out: &mut [u8], at: usize, bytes: &[u8])
@@ -33,12 +31,12 @@ fn row_bytes(row: PostingRow) -> [u8; 13]
 }
 
 /// Puts the 24 prices behind their count.
-fn put_prices(out: &mut [u8], prices: &[u32])
-    requires { (length prices.now ≡ 24) × (98 ≤ length out.old) }
+fn put_prices(out: &mut [u8], prices: &[u32; 24])
+    requires { 98 ≤ length out.old }
     ensures after { out.new ≡ laid out.old 2 (flat_map u32_of prices.now) }
 {
-    for hour in 0..24 {
-        put(out, 2 + 4 * hour, &prices[hour].to_be_bytes());
+    for (hour, price) in prices.iter().enumerate() {
+        put(out, 2 + 4 * hour, &price.to_be_bytes());
     }
 }
 
@@ -47,39 +45,22 @@ fn put_postings<B: Book>(out: &mut [u8], book: &B)
     requires { 100 + 13 * length (B.Book.list book.now) ≤ length out.old }
     ensures after { out.new ≡ laid out.old 100 (flat_map row_bytes (B.Book.list book.now)) }
 {
-    for place in 0..book.count() {
-        match book.at(place) {
-            Some(posting) => put(out, 100 + 13 * place, &row_bytes(posting.row())),
-            // never: the place is below the count
-            None => {}
-        }
+    for (place, posting) in Postings::of(book).enumerate() {
+        put(out, 100 + 13 * place, &row_bytes(posting.row()));
     }
 }
 
 /// Puts the whole image: each section behind its count.
-fn put_day<B: Book>(out: &mut [u8], prices: &[u32], book: &B)
-    requires priced { length prices.now ≡ 24 }
+fn put_day<B: Book>(out: &mut [u8], prices: &[u32; 24], book: &B)
     requires few { length (B.Book.list book.now) ≤ 2048 }
     requires room { 100 + 13 * length (B.Book.list book.now) ≤ length out.old }
     ensures after { out.new ≡ laid out.old 0 (bytes_of prices.now (B.Book.list book.now)) }
 {
+    // `as`: the check proves that nothing is lost, where `try_from` would answer a `Result`
     put(out, 0, &(prices.len() as u16).to_be_bytes());
     put_prices(out, prices);
     put(out, 98, &(book.count() as u16).to_be_bytes());
     put_postings(out, book);
-}
-
-/// Whether each of the 24 prices is at most 500,000.
-fn check_limits(prices: &[u32]) -> Result<(), Fault>
-    requires { length prices.now ≡ 24 }
-    ensures cases { Answered (ask_limits prices.now) result }
-{
-    for hour in 0..24 {
-        if prices[hour] > 500_000 {
-            return Err(Fault::PriceAt(hour));
-        }
-    }
-    Ok(())
 }
 
 /// Writes the image of a day and answers its length. Bytes past it stay as they are, and at a refusal all do.
@@ -87,10 +68,10 @@ pub fn write_image<B: Book>(prices: &[u32], book: &B, out: &mut [u8]) -> Result<
     ensures cases { Written prices.now (B.Book.list book.now) out.old result out.new }
     ensures opens { Opens prices.now (B.Book.list book.now) result out.new }
 {
-    if prices.len() != 24 {
+    let Ok(prices) = <&[u32; 24]>::try_from(prices) else {
         return Err(Fault::PriceCount);
-    }
-    check_limits(prices)?;
+    };
+    check_prices(prices)?;
     let count = book.count();
     if count > MOST_POSTINGS {
         return Err(Fault::ManyPostings);

@@ -6,7 +6,7 @@ ghost use Rattle.postings.specs.Table.{table, hours_within, volume_within, price
 use super::kind::Kind;
 
 /// A row of the table.
-#[derive(Clone, Copy)]
+#[derive(Clone, Copy, PartialEq, Eq, Debug)]
 pub struct Limits {
     /// The fewest hours.
     pub shortest: u8,

@@ -8,7 +8,7 @@ use super::row::PostingRow;
 pub mod calls;
 
 /// A posting that keeps its row of the table, with a member below 64. `Posting::make` alone makes one.
-#[derive(Clone, Copy)]
+#[derive(Clone, Copy, PartialEq, Eq, Debug)]
 pub struct Posting {
     row: PostingRow,
     ghost keeps: { lawful row ≡ true },

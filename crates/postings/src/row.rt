@@ -1,7 +1,8 @@
 //! A posting's row as the host keeps it: plain numbers, lawful or not.
 
 /// The seven numbers of a posting.
-#[derive(Clone, Copy)]
+// plain numbers, the kind among them: a host's row may be unlawful, and making a posting of it says so
+#[derive(Clone, Copy, PartialEq, Eq, Debug, Default)]
 pub struct PostingRow {
     /// The kind's code.
     pub kind: u8,

@@ -1,10 +1,12 @@
 pub mod Bits
 pub mod Counted
-pub mod Charges
 pub mod Shareable
+pub mod Members
+pub mod Charges
+pub mod Made
+pub mod Chunks
 pub mod DayLimits
-pub mod DayBills
-pub mod DayShares
 pub mod RowTotals
 pub mod DayRows
-pub mod Members
+pub mod DayShares
+pub mod DayBills

@@ -1,15 +1,11 @@
 -- The limits that a day keeps before its sheet is reckoned, each with its fault.
-use Rattle.std.specs.Prelude.{◌≡◌, ℕ, ◌<◌, ◌≤◌, List, length, Some, slice_index}
+use Rattle.std.specs.Prelude.{◌≡◌, ℕ, ◌<◌, ◌≤◌, List, length, Some}
 use Rattle.std.specs.List.{slice_get}
 use Rattle.faults.specs.declared.fault.Fault.{Fault}
-use Rattle.faults.specs.declared.fault.Fault.TheVariants.{PriceAt, ManyPostings, MuchVolume, StrangerAt}
+use Rattle.faults.specs.declared.fault.Fault.TheVariants.{ManyPostings, MuchVolume, StrangerAt}
 use Rattle.faults.specs.Asks.{Ask, ask, ask_each}
 use Rattle.postings.specs.declared.row.PostingRow.{PostingRow}
 use Rattle.formulas.specs.Postings.{volume_hours, most_postings, most_kwh}
-
--- each market price is at most 500,000
-abbrev pub ask_prices : List ℕ → Ask Fault
-ask_prices prices = ask_each PriceAt (length prices) (λ k. slice_index prices k ≤ 500_000)
 
 -- at most 2,048 postings
 abbrev pub ask_postings : List PostingRow → Ask Fault

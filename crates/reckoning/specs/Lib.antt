@@ -1,6 +1,5 @@
 pub mod Grid
 pub mod Totals
-pub mod Day
 pub mod Sheets
 pub mod Admission
 pub mod Reckoning

@@ -4,30 +4,14 @@ ghost use Rattle.std.specs.Prelude.{◌≡◌, ◌*◌, ◌≤◌, true, length}
 ghost use Rattle.faults.specs.Asks.{Answered};
 ghost use Rattle.postings.specs.Table.{all_lawful};
 ghost use Rattle.formulas.specs.Postings.{is_order, kwh, span};
-ghost use Rattle.reckoning.specs.Admission.{ask_prices, ask_postings, ask_volume, ask_members};
+ghost use Rattle.reckoning.specs.Admission.{ask_postings, ask_volume, ask_members};
 
-use books::Book;
+use books::{Book, Postings};
 use faults::Fault;
-use postings::{Kind, Posting};
+use postings::{Kind, MOST_POSTINGS, Posting};
 
-/// The highest market price.
-const HIGHEST_PRICE: u32 = 500_000;
-/// The most postings of a day.
-const MOST_POSTINGS: usize = 2048;
 /// The most kWh of volume × hours.
 const MOST_KWH: u64 = 120_000_000;
-
-/// Whether each market price is lawful.
-pub fn check_prices(prices: &[u32]) -> Result<(), Fault>
-    ensures cases { Answered (ask_prices prices.now) result }
-{
-    for (place, price) in prices.iter().enumerate() {
-        if *price > HIGHEST_PRICE {
-            return Err(Fault::PriceAt(place));
-        }
-    }
-    Ok(())
-}
 
 /// Whether there are few enough postings.
 pub fn check_postings<B: Book>(book: &B) -> Result<(), Fault>
@@ -44,10 +28,10 @@ pub fn check_postings<B: Book>(book: &B) -> Result<(), Fault>
 fn is_order(posting: &Posting) -> bool
     ensures value { result ≡ is_order posting.now.row }
 {
-    match posting.kind() {
-        Kind::Injection | Kind::Withdrawal | Kind::Up | Kind::Down => false,
-        _ => true,
-    }
+    !matches!(
+        posting.kind(),
+        Kind::Injection | Kind::Withdrawal | Kind::Up | Kind::Down
+    )
 }
 
 /// The kWh of a posting in each hour that it covers.
@@ -55,11 +39,12 @@ fn kwh_in_hour(posting: &Posting) -> u64
     ensures value { result ≡ kwh posting.now.row }
     ensures bound { result ≤ 1000000 }
 {
-    let row = posting.row();
+    let volume = u64::from(posting.row().volume);
     if is_order(posting) {
-        return 100 * u64::from(row.volume);
+        100 * volume
+    } else {
+        volume
     }
-    u64::from(row.volume)
 }
 
 /// Volume × hours of a posting, in kWh.
@@ -67,9 +52,7 @@ fn kwh_of(posting: &Posting) -> u64
     ensures value { result ≡ kwh posting.now.row * span posting.now.row }
     ensures bound { result ≤ 24000000 }
 {
-    let row = posting.row();
-    let hours = u64::from(row.last - row.first) + 1;
-    kwh_in_hour(posting) * hours
+    kwh_in_hour(posting) * u64::from(posting.hours())
 }
 
 /// Whether there is little enough volume; a book of over 2,048 postings has too many of them.
@@ -77,12 +60,8 @@ pub fn check_volume<B: Book>(book: &B) -> Result<(), Fault>
     ensures cases { Answered (ask_volume (B.Book.list book.now)) result }
 {
     let mut sum = 0;
-    for place in 0..book.count() {
-        match book.at(place) {
-            Some(posting) => sum += kwh_of(&posting),
-            // never: the place is below the count
-            None => {}
-        }
+    for posting in Postings::of(book) {
+        sum += kwh_of(&posting);
         if sum > MOST_KWH {
             return Err(Fault::MuchVolume);
         }
@@ -94,15 +73,9 @@ pub fn check_volume<B: Book>(book: &B) -> Result<(), Fault>
 pub fn check_members<B: Book>(book: &B, members: usize) -> Result<(), Fault>
     ensures cases { Answered (ask_members (B.Book.list book.now) members) result }
 {
-    for place in 0..book.count() {
-        match book.at(place) {
-            Some(posting) => {
-                if posting.row().member as usize >= members {
-                    return Err(Fault::StrangerAt(place));
-                }
-            }
-            // never: the place is below the count
-            None => {}
+    for (place, posting) in Postings::of(book).enumerate() {
+        if usize::from(posting.row().member) >= members {
+            return Err(Fault::StrangerAt(place));
         }
     }
     Ok(())

@@ -2,8 +2,9 @@
 #![tactic(auto)]
 
 mod admission;
-mod bills;
+mod day;
 mod firsts;
+mod grid;
 mod imbalances;
 mod lines;
 mod prices;
@@ -11,5 +12,6 @@ mod reckoned;
 mod shares;
 mod sheet;
 
-pub use admission::{check_members, check_postings, check_prices, check_volume};
+pub use admission::{check_members, check_postings, check_volume};
+pub use postings::check_prices;
 pub use reckoned::reckon;

@@ -3,27 +3,15 @@
 ghost use Rattle.std.specs.Prelude.{◌≡◌, true, OnOk};
 ghost use Rattle.faults.specs.Asks.{Answered};
 ghost use Rattle.postings.specs.Table.{all_lawful};
-ghost use Rattle.reckoning.specs.Reckoning.{ask_count, ask_rows, Admitted, Reckoned};
+ghost use Rattle.reckoning.specs.Reckoning.{ask_rows, Admitted, Reckoned};
 
-use crate::admission::{check_members, check_postings, check_prices, check_volume};
-use crate::sheet::reckon_sheet;
+use crate::admission::{check_members, check_postings, check_volume};
+use crate::day::Day;
 use books::Book;
 use faults::Fault;
 use formulas::SheetRow;
+use postings::{check_count, check_prices};
 use sharing::SharingRule;
-
-/// The most members of a day.
-const MOST_MEMBERS: usize = 64;
-
-/// Whether a day has so many members.
-fn check_count(members: usize) -> Result<(), Fault>
-    ensures cases { Answered (ask_count members) result }
-{
-    if members == 0 || members > MOST_MEMBERS {
-        return Err(Fault::MemberCount);
-    }
-    Ok(())
-}
 
 /// Whether there is a row for each member.
 fn check_rows(members: usize, rows: usize) -> Result<(), Fault>
@@ -59,8 +47,6 @@ pub fn reckon<B: Book, R: SharingRule>(
 ) -> Result<i64, Fault>
     ensures cases { Reckoned R.SharingRule.parts prices.now (B.Book.list book.now) members rows.old result rows.new }
 {
-    match admit(book, prices, members, rows.len()) {
-        Ok(()) => Ok(reckon_sheet(book, rule, prices, members, rows)),
-        Err(fault) => Err(fault),
-    }
+    admit(book, prices, members, rows.len())?;
+    Ok(Day::of(book, prices, members).write_sheet(rule, rows))
 }

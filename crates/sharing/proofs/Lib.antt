@@ -1,4 +1,3 @@
 pub mod Parts
 pub mod Marking
 pub mod Topping
-pub mod Fairness

@@ -1,37 +1,45 @@
--- Why the numbers that are shared by fit 64 bits.
-use Rattle.std.specs.Prelude.{◌≡◌, ℕ, ◌≤◌, ℤ, pos, ◌*ℤ◌, FitsSigned, unsigned_abs}
-use Rattle.std.proofs.Common.{arith, mul-le-mul_left, ◌∙◌, ap, ap₂, to_z, of_z}
-use Rattle.std.proofs.lemmas.Int.{ints, to_z-of_z, to_z_pos}
+-- Why the numbers that are shared by fit 64 bits, and what the code has for an exact share.
+use Rattle.std.specs.Prelude.{◌≡◌, ℕ, ◌*◌, ◌<◌, ◌≤◌, List, ℤ, pos, ◌*ℤ◌, FitsSigned, unsigned_abs}
+use Rattle.std.proofs.Common.{arith, mul-le-mul_left, le-mul_of_pos_right, ◌∙◌, ap, ap₂, to_z, of_z}
+use Rattle.std.proofs.lemmas.Int.{ints, to_z-of_z, to_z_pos, unsigned_abs-mul}
 use Rattle.std.specs.Int.{int_div_euclid, int_rem_euclid, w64}
 use Rattle.integers.specs.Floor.{floor_div, floor_mod}
-use Rattle.integers.proofs.Floor.{euclid_is_floor, euclid_is_rest}
-use Rattle.integers.proofs.Size.{size_times}
-use Rattle.sharing.specs.Inside.{Small}
+use Rattle.integers.proofs.Floor.{euclid_is_floor, euclid_is_rest, floor_size}
+use Rattle.sharing.specs.Inside.{Weighed}
 use Rattle.sharing.specs.Shared.{limit}
 
-pub product_size : (s : ℤ) (w all : ℕ) → Small s w all → unsigned_abs (s *ℤ pos w) ≤ limit
-product_size s w all h = omega (arith, size_times s (pos w), mul-le-mul_left (unsigned_abs s) h.part)
+-- w is a weight out of a sum by which s can be shared
+module _ (s : ℤ) (ws : List ℕ) (w all : ℕ) (m : Weighed s ws all) (part : w ≤ all) where
+  sized : unsigned_abs s * all ≤ limit
+  sized = omega (arith, m.shareable.sized, ap (λ (n : ℕ). unsigned_abs s * n) m.sum_is)
 
--- the product as the code has it
-pub product_is : (s : ℤ) (w all : ℕ) → FitsSigned w64 s → Small s w all → to_z w64 (of_z w64 s) *ℤ to_z w64 w ≡ s *ℤ pos w
-product_is s w all f h = ap₂ ◌*ℤ◌ (to_z-of_z w64 s f) (to_z_pos w64 w (omega arith))
+  pub product_size : unsigned_abs (s *ℤ pos w) ≤ limit
+  product_size = omega (arith, unsigned_abs-mul s (pos w), mul-le-mul_left (unsigned_abs s) part, sized)
 
-pub product_fits : (s : ℤ) (w all : ℕ) → Small s w all → FitsSigned w64 (s *ℤ pos w)
-product_fits s w all h = omega (arith, ints, product_size s w all h)
+  module _ (some : 0 < all) where
+    -- the product as the code has it
+    product_is : to_z w64 (of_z w64 s) *ℤ to_z w64 w ≡ s *ℤ pos w
+    product_is =
+        let f : FitsSigned w64 s = omega (arith, ints, le-mul_of_pos_right (unsigned_abs s) some, sized) in
+        ap₂ ◌*ℤ◌ (to_z-of_z w64 s f) (to_z_pos w64 w (omega (arith, m.sum_is, m.shareable.weighed)))
 
--- and as it is read again
-pub product_read : (s : ℤ) (w all : ℕ) → FitsSigned w64 s → Small s w all → to_z w64 (of_z w64 (to_z w64 (of_z w64 s) *ℤ to_z w64 w)) ≡ s *ℤ pos w
-product_read s w all f h = rw (product_is s w all f h) (to_z-of_z w64 _ (product_fits s w all h))
+    product_fits : FitsSigned w64 (to_z w64 (of_z w64 s) *ℤ to_z w64 w)
+    product_fits = rw product_is (omega (arith, ints, product_size))
 
-pub total_read : (s : ℤ) (w all : ℕ) → Small s w all → to_z w64 all ≡ pos all
-total_read s w all h = to_z_pos w64 all (omega arith)
+    -- and as it is read again
+    product_read : to_z w64 (of_z w64 (to_z w64 (of_z w64 s) *ℤ to_z w64 w)) ≡ s *ℤ pos w
+    product_read = to_z-of_z w64 _ product_fits ∙ product_is
 
--- the quotient that the code has
-pub quotient_read : (s : ℤ) (w all : ℕ) (r : ℤ) → FitsSigned w64 s → FitsSigned w64 r → Small s w all → r ≡ int_div_euclid (to_z w64 (of_z w64 (to_z w64 (of_z w64 s) *ℤ to_z w64 w))) (to_z w64 all) → to_z w64 (of_z w64 r) ≡ floor_div (s *ℤ pos w) all
-quotient_read s w all r f g h e =
-    to_z-of_z w64 r g ∙ e ∙ ap₂ int_div_euclid (product_read s w all f h) (total_read s w all h) ∙ euclid_is_floor (s *ℤ pos w) all
+    total_read : to_z w64 all ≡ pos all
+    total_read = to_z_pos w64 all (omega (arith, m.sum_is, m.shareable.weighed))
 
--- and the remainder
-pub remainder_read : (s : ℤ) (w all : ℕ) (r : ℤ) → FitsSigned w64 s → FitsSigned w64 r → Small s w all → r ≡ int_rem_euclid (to_z w64 (of_z w64 (to_z w64 (of_z w64 s) *ℤ to_z w64 w))) (to_z w64 all) → unsigned_abs (to_z w64 (of_z w64 r)) ≡ floor_mod (s *ℤ pos w) all
-remainder_read s w all r f g h e =
-    ap unsigned_abs (to_z-of_z w64 r g ∙ e ∙ ap₂ int_rem_euclid (product_read s w all f h) (total_read s w all h) ∙ euclid_is_rest (s *ℤ pos w) all)
+    -- the quotient that the code has, and the remainder
+    pub quotient_read : (r : ℤ) → FitsSigned w64 r → r ≡ int_div_euclid (to_z w64 (of_z w64 (to_z w64 (of_z w64 s) *ℤ to_z w64 w))) (to_z w64 all) → to_z w64 (of_z w64 r) ≡ floor_div (s *ℤ pos w) all
+    quotient_read r g e =
+        to_z-of_z w64 r g ∙ e ∙ ap₂ int_div_euclid product_read total_read ∙ euclid_is_floor (s *ℤ pos w) all
+
+    pub rest_read : (r : ℤ) → FitsSigned w64 r → r ≡ int_rem_euclid (to_z w64 (of_z w64 (to_z w64 (of_z w64 s) *ℤ to_z w64 w))) (to_z w64 all) → to_z w64 (of_z w64 r) ≡ pos (floor_mod (s *ℤ pos w) all)
+    rest_read r g e = to_z-of_z w64 r g ∙ e ∙ ap₂ int_rem_euclid product_read total_read ∙ euclid_is_rest (s *ℤ pos w) all
+
+    pub quotient_size : (r : ℤ) → r ≡ floor_div (s *ℤ pos w) all → unsigned_abs r ≤ limit
+    quotient_size r e = omega (arith, ap unsigned_abs e, floor_size (s *ℤ pos w) all, product_size)

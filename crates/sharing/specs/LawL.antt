@@ -11,14 +11,11 @@ use Rattle.integers.specs.Floor.{floor_div, floor_mod}
 use Rattle.integers.specs.Sums.{int_sum_by}
 use Rattle.integers.proofs.Ring.{minus_times, times_nil, nil_times}
 use Rattle.integers.proofs.Order.{times_cancel_le}
-use Rattle.integers.proofs.Floor.{floor_rest, rest_below, floor_size}
+use Rattle.integers.proofs.Floor.{floor_rest, rest_below}
 use Rattle.integers.proofs.Sums.{sum_map, sum_same, sum_plus, sum_times, sum_pos}
 use Rattle.sharing.specs.Law.{Rounded, SharingLaw}
-use Rattle.sharing.specs.Inside.{Small}
-use Rattle.sharing.specs.Shared.{limit}
 use Rattle.sharing.specs.Rules.{members, rounded_down, remainder, ahead, rank, left_over, part_l, parts_l}
 use Rattle.integers.proofs.Places.{sum_places, spread, sum_le_some, count_mono}
-use Rattle.sharing.specs.Fitting.{product_size}
 use Rattle.sharing.specs.Ranks.{Strict, first_ones}
 
 -- to come before is a strict order
@@ -98,30 +95,16 @@ law_l = record {
 }
 
 -- what the code computes for a member, where total is the sum of the weights
-pub low_here : (s : ℤ) (ws : List ℕ) (k all : ℕ) (r : ℤ) → all ≡ sum ws → r ≡ floor_div (s *ℤ pos (slice_index ws k)) all → r ≡ rounded_down s ws k
-unfolding rounded_down
-low_here s ws k all r e f = f ∙ ap (floor_div (s *ℤ pos (slice_index ws k))) e
+module _ (s : ℤ) (ws : List ℕ) (k all : ℕ) (e : all ≡ sum ws) where
+  pub low_here : floor_div (s *ℤ pos (slice_index ws k)) all ≡ rounded_down s ws k
+  unfolding rounded_down
+  low_here = ap (floor_div (s *ℤ pos (slice_index ws k))) e
 
-pub rest_here : (s : ℤ) (ws : List ℕ) (k all r : ℕ) → all ≡ sum ws → r ≡ floor_mod (s *ℤ pos (slice_index ws k)) all → r ≡ remainder s ws k
-unfolding remainder
-rest_here s ws k all r e f = f ∙ ap (floor_mod (s *ℤ pos (slice_index ws k))) e
-
--- a part rounded down is within the limit
-pub low_size : (s : ℤ) (ws : List ℕ) (k all : ℕ) → Small s (slice_index ws k) all → unsigned_abs (rounded_down s ws k) ≤ limit
-unfolding rounded_down
-low_size s ws k all m = omega (arith, floor_size (s *ℤ pos (slice_index ws k)) (sum ws), product_size s (slice_index ws k) all m)
+  pub rest_here : floor_mod (s *ℤ pos (slice_index ws k)) all ≡ remainder s ws k
+  unfolding remainder
+  rest_here = ap (floor_mod (s *ℤ pos (slice_index ws k))) e
 
 -- with no weight nothing is left over
 pub left_none : (s : ℤ) (ws : List ℕ) → sum ws ≡ 0 → left_over s ws ≡ 0
 unfolding left_over
 left_none s ws e = rw e
-
--- a remainder is at most W, whatever W is
-pub rest_le : (s : ℤ) (ws : List ℕ) (k : ℕ) → k < length ws → remainder s ws k ≤ sum ws
-unfolding remainder
-rest_le s ws k h = ⊎_elim (λ p. omega (arith, rest_lt s ws k p)) (λ z. omega (arith, none (omega arith))) (cases_lt 0 (sum ws))
-  where
-    none : sum ws ≡ 0 → remainder s ws k ≡ 0
-    none e =
-        let w : slice_index_or ws k 0 ≡ 0 = omega (arith, get_or-le-sum_by (λ x. x) ws k 0 h) in
-        rw (w, e) (ap (λ (z : ℤ). floor_mod z 0) (times_nil s))

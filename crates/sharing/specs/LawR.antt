@@ -1,6 +1,6 @@
 -- Rule R keeps the sharing law.
 use Rattle.std.specs.Prelude.{◌≡◌, ℕ, ◌+◌, ◌<◌, List, length, take, ℤ, pos, ◌+ℤ◌, ◌-ℤ◌, ◌*ℤ◌, sum, slice_index}
-use Rattle.std.proofs.Common.{arith, zero-add, sym, ◌∙◌, ap, ap₂, subst, ⊎_elim}
+use Rattle.std.proofs.Common.{arith, zero-add, sym, ◌∙◌, ap, subst, ⊎_elim}
 use Rattle.std.proofs.lemmas.List.FromFn.{length-map-range_with_len, get_or-map-range_with_len}
 use Rattle.std.proofs.lemmas.List.{get_or_past, take_all}
 use Rattle.std.proofs.lemmas.List.Sums.{sum_by_more, sum_by-take-le}
@@ -55,6 +55,6 @@ law_r = record {
     ends s ws p = omega (arith, ints, ap (reached s ws) (zero-add (length ws)), first s ws, last s ws p)
 
 -- what the code adds up to, where it has come to
-pub reached_here : (s : ℤ) (ws : List ℕ) (k weight all : ℕ) (r : ℤ) → k < length ws → all ≡ sum ws → weight ≡ sum (take k ws) → r ≡ floor_div (s *ℤ pos (weight + slice_index ws k)) all → r ≡ reached s ws (k + 1)
+pub reached_here : (s : ℤ) (ws : List ℕ) (k running : ℕ) → k < length ws → running ≡ sum (take k ws) → floor_div (s *ℤ pos (running + slice_index ws k)) (sum ws) ≡ reached s ws (k + 1)
 unfolding reached
-reached_here s ws k weight all r h e f g = g ∙ ap₂ (λ (n m : ℕ). floor_div (s *ℤ pos n) m) (omega (arith, sum_by_more (λ x. x) ws k 0 h)) e
+reached_here s ws k running h e = ap (λ (n : ℕ). floor_div (s *ℤ pos n) (sum ws)) (omega (arith, sum_by_more (λ x. x) ws k 0 h))

@@ -1,6 +1,5 @@
 -- How rule L's code finds the members that get one more: in a list of the remainders it marks each of them with -1.
-use Rattle.std.specs.Prelude.{◌≡◌, ℕ, ◌<◌, ◌≤◌, cond, List, length, ℤ, pos, negsuc, ◌+ℤ◌, ◌≤ℤ◌, ◌<ℤ◌, int_lt, nat_lt, slice_index_or, unsigned_abs}
-use Rattle.sharing.specs.Shared.{limit}
+use Rattle.std.specs.Prelude.{◌≡◌, ℕ, ◌<◌, cond, List, length, ℤ, pos, negsuc, ◌+ℤ◌, ◌≤ℤ◌, ◌<ℤ◌, int_lt, nat_lt, slice_index_or, unsigned_abs}
 use Rattle.sharing.specs.Rules.{rounded_down, remainder, rank}
 
 -- xs has the remainder of each member
@@ -10,12 +9,6 @@ RemaindersOf s ws xs = (k : ℕ) → k < length xs → slice_index_or xs k (pos 
 -- xs has numbers from 0
 abbrev pub FromNil : List ℤ → Type 0
 FromNil xs = (k : ℕ) → k < length xs → pos 0 ≤ℤ slice_index_or xs k (pos 0)
-
--- xs has remainders of divisions by total
-pub record Remainders (total : ℕ) (xs : List ℤ) : Type 0 where
-  pub total_fits : total ≤ limit
-  pub from_nil : FromNil xs
-  pub below : (k : ℕ) → k < length xs → 0 < total → unsigned_abs (slice_index_or xs k (pos 0)) < total
 
 -- k is the lowest place of the largest number
 pub record FirstLargest (xs : List ℤ) (k : ℕ) : Type 0 where

@@ -1,6 +1,6 @@
 //! A sharing rule: how an amount is split over members by their weights.
 
-ghost use Rattle.std.specs.Prelude.{◌≡◌, ℕ, List, ℤ};
+ghost use Rattle.std.specs.Prelude.{ℕ, List, ℤ};
 ghost use Rattle.sharing.specs.Law.{SharingLaw};
 ghost use Rattle.sharing.specs.Shared.{Shared};
 
@@ -12,14 +12,10 @@ pub trait SharingRule {
     const LETTER: u8;
 
     // the letter, for clauses
-    ghost letter: { ℕ };
+    ghost LETTER: { ℕ };
 
     // the parts, by the amount and the weights alone
     ghost parts: { ℤ → List ℕ → List ℤ };
-
-    /// The letter, as the constant has it.
-    fn mark(&self) -> u8
-        ensures value { result ≡ letter };
 
     /// Writes the parts of `amount` by `weights` to `out`, or refuses and leaves `out` as it was.
     fn share(&self, amount: i64, weights: &[u64], out: &mut [i64]) -> Result<(), Fault>

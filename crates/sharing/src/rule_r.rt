@@ -3,8 +3,7 @@
 ghost use Rattle.sharing.specs.Rules.{parts_r};
 ghost use Rattle.sharing.specs.LawR.{law_r};
 
-use crate::admission::admitted;
-use crate::exact::rounded_down;
+use crate::division::Division;
 use crate::rule::SharingRule;
 use faults::Fault;
 
@@ -16,23 +15,20 @@ pub struct RuleR;
 impl SharingRule for RuleR {
     const LETTER: u8 = b'R';
 
-    ghost letter = { 82 };
+    ghost LETTER = { 82 };
 
     ghost parts = { parts_r };
 
     ghost fair = { law_r };
 
-    fn mark(&self) -> u8 {
-        Self::LETTER
-    }
-
     fn share(&self, amount: i64, weights: &[u64], out: &mut [i64]) -> Result<(), Fault> {
-        let total = admitted(amount, weights, out.len())?;
+        let division = Division::admitted(amount, weights, out.len())?;
         let mut running = 0;
         let mut before = 0;
+        // by place: what a `zip` with `out.iter_mut()` writes is not known to the proof
         for (k, w) in weights.iter().enumerate() {
             running += *w;
-            let reached = rounded_down(amount, running, total);
+            let reached = division.exact(running).whole;
             out[k] = reached - before;
             before = reached;
         }

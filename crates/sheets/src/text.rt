@@ -11,10 +11,11 @@ use sharing::SharingRule;
 use std::fmt;
 
 /// A day's sheet: the rule's letter, the members, their rows and the pool's bill.
-#[derive(Clone, Copy)]
+#[derive(Clone, Copy, PartialEq, Eq, Debug)]
 pub struct Sheet {
     letter: u8,
     members: usize,
+    // fixed memory, since the library has no heap: those of the members are the first
     rows: [SheetRow; 64],
     bill: i64,
 }
@@ -22,25 +23,20 @@ pub struct Sheet {
 impl Sheet {
     /// The sheet of a day image, or the fault for which there is none.
     pub fn of_image<R: SharingRule>(rule: &R, image: &[u8]) -> Result<Sheet, Fault>
-        ensures cases { OfImage R.SharingRule.parts R.SharingRule.letter image.now result }
+        ensures cases { OfImage R.SharingRule.parts R.SharingRule.LETTER image.now result }
     {
-        match check(image) {
-            Ok(()) => {}
-            Err(fault) => return Err(fault),
-        }
+        check(image)?;
         let book = ImageBook::open(image);
         let members = members_named(&book);
         let prices = prices(image);
-        let mut rows = [SheetRow::NIL; 64];
-        match reckon(&book, rule, &prices, members, &mut rows) {
-            Ok(bill) => Ok(Sheet {
-                letter: rule.mark(),
-                members,
-                rows,
-                bill,
-            }),
-            Err(fault) => Err(fault),
-        }
+        let mut rows = [SheetRow::default(); 64];
+        let bill = reckon(&book, rule, &prices, members, &mut rows)?;
+        Ok(Sheet {
+            letter: R::LETTER,
+            members,
+            rows,
+            bill,
+        })
     }
 }
 
@@ -51,30 +47,8 @@ impl fmt::Display for Sheet {
         let bill = self.bill;
         writeln!(f, "RULE {letter} MEMBERS {members} BILL {bill}")?;
         for (member, row) in self.rows.iter().take(members).enumerate() {
-            write_row(f, member, row)?;
+            writeln!(f, "{member} {row}")?;
         }
         Ok(())
     }
-}
-
-/// A member's line: its number and the ten figures.
-fn write_row<W: fmt::Write>(
-    f: &mut fmt::Formatter<W>,
-    member: usize,
-    row: &SheetRow,
-) -> fmt::Result {
-    let SheetRow {
-        bought,
-        sold,
-        saft,
-        ssft,
-        yft,
-        balancing,
-        zero,
-        alone,
-        part,
-        total,
-    } = *row;
-    write!(f, "{member} {bought} {sold} {saft} {ssft} {yft} ")?;
-    writeln!(f, "{balancing} {zero} {alone} {part} {total}")
 }

@@ -1,71 +1,49 @@
-//! What corrections answer. These stand apart from the struct, since their contracts cite definitions that name it.
+//! What corrections answer. These stand apart from the structs, since their contracts cite definitions that name them.
 
-ghost use Rattle.std.specs.Prelude.{◌≡◌, ℕ, false, [], ◌==◌};
-ghost use Rattle.postings.specs.declared.row.PostingRow.{PostingRow};
-ghost use Rattle.books.specs.Layers.{corrected_places, volume_at, amend, Stands, Noted};
+ghost use Rattle.std.specs.Prelude.{◌≡◌, [], ◌==◌};
+ghost use Rattle.std.specs.List.{position};
+ghost use Rattle.books.specs.Layers.{corrected_places, volume_at, Noted};
 
-use super::Corrections;
+use super::{Correction, Corrections};
+use arrayvec::ArrayVec;
+use faults::Fault;
 
 impl Corrections {
     /// No correction.
     pub fn new() -> Corrections
         ensures places { corrected_places result ≡ [] }
     {
-        Corrections {
-            places: [0; 32],
-            volumes: [0; 32],
-            used: 0,
-        }
+        let entries = ArrayVec::new();
+        Corrections { entries }
     }
 
-    /// Where a place stands among the corrected ones.
+    /// Where the correction of a place stands, if it has one.
     fn index(&self, place: usize) -> Option<usize>
-        ensures cases { Stands self.now place result }
+        ensures value { result ≡ position (λ e. e.place == place) self.now.entries.items }
     {
-        for i in 0..self.used {
-            if self.places[i] == place {
-                return Some(i);
-            }
-        }
-        None
+        self.entries.iter().position(|entry| entry.place == place)
     }
 
     /// The latest volume at a place, if it is corrected.
     pub fn volume_at(&self, place: usize) -> Option<u32>
         ensures value { result ≡ volume_at self.now place }
     {
-        match self.index(place) {
-            Some(i) => Some(self.volumes[i]),
-            None => None,
-        }
+        let entry = self.entries.iter().find(|entry| entry.place == place)?;
+        Some(entry.volume)
     }
 
-    /// Notes the volume at a place, or answers false where 32 other places are corrected.
-    pub fn note(&mut self, place: usize, volume: u32) -> bool
+    /// Notes the volume at a place, or refuses where 32 other places are corrected.
+    pub fn note(&mut self, place: usize, volume: u32) -> Result<(), Fault>
         ensures cases { Noted self.old place volume result self.new }
     {
         if let Some(i) = self.index(place) {
-            self.volumes[i] = volume;
-            return true;
+            self.entries[i].volume = volume;
+            return Ok(());
         }
-        let i = self.used;
-        if i >= self.places.len() {
-            return false;
+        if self.entries.is_full() {
+            return Err(Fault::CorrectionsFull);
         }
-        self.places[i] = place;
-        self.volumes[i] = volume;
-        self.used = i + 1;
-        true
-    }
-
-    /// Takes the correction of one place away, if it has one: no row allows the volume 0.
-    pub fn clear(&mut self, place: usize)
-        ensures cleared { (r : PostingRow) → amend r (volume_at self.new place) ≡ r }
-        ensures others { (q : ℕ) → (q == place) ≡ false → volume_at self.new q ≡ volume_at self.old q }
-        ensures places { corrected_places self.new ≡ corrected_places self.old }
-    {
-        if let Some(i) = self.index(place) {
-            self.volumes[i] = 0;
-        }
+        self.entries.push(Correction { place, volume });
+        Ok(())
     }
 }

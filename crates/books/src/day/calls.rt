@@ -6,16 +6,14 @@ ghost use Rattle.books.specs.Days.{Opened, PostedInDay};
 use super::OpenDay;
 use crate::book::OpenBook;
 use faults::Fault;
-use postings::Posting;
+use postings::{Posting, check_count};
 
 impl OpenDay {
     /// An open day of so many members.
     pub fn open(members: usize) -> Result<OpenDay, Fault>
         ensures cases { Opened members result }
     {
-        if members < 1 || members > 64 {
-            return Err(Fault::MemberCount);
-        }
+        check_count(members)?;
         Ok(OpenDay { members })
     }
 
@@ -33,7 +31,7 @@ impl OpenDay {
         ensures cases { PostedInDay self.now.members (B.Book.list book.old) (B.Book.largest book.old) posting.row result (B.Book.list book.new) }
         ensures same { B.Book.largest book.new ≡ B.Book.largest book.old }
     {
-        if posting.row().member as usize >= self.members {
+        if usize::from(posting.row().member) >= self.members {
             return Err(Fault::NotMember);
         }
         book.post(posting)

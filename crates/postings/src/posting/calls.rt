@@ -1,6 +1,6 @@
 //! Making a posting, and what one tells. These stand apart from the struct, since their contracts cite definitions that name it.
 
-ghost use Rattle.std.specs.Prelude.{◌≡◌};
+ghost use Rattle.std.specs.Prelude.{◌≡◌, ◌+◌, ◌-◌, ◌≤◌};
 ghost use Rattle.postings.specs.Table.{code};
 ghost use Rattle.postings.specs.Bounds.{Bounds};
 ghost use Rattle.postings.specs.Making.{Made};
@@ -13,13 +13,12 @@ use faults::MakingFault;
 
 impl Posting {
     /// The posting of a row, or the first column of the table that the row breaks.
+    // not `TryFrom`: making is the pool's word, and the clause stands on the call
+    #[tactic(auto, unfolding(crate::specs::Table::lawful))]
     pub fn make(row: PostingRow) -> Result<Posting, MakingFault>
         ensures cases { Made row result }
     {
-        let Some(kind) = Kind::of(row.kind) else {
-            return Err(MakingFault::Kind);
-        };
-        let limits = kind.limits();
+        let limits = Kind::try_from(row.kind)?.limits();
         if !limits.allow_hours(row.first, row.last) {
             return Err(MakingFault::Hours);
         }
@@ -50,14 +49,24 @@ impl Posting {
     pub fn kind(&self) -> Kind
         ensures value { self.now.row.kind ≡ code result }
     {
-        match Kind::of(self.row.kind) {
-            Some(kind) => kind,
+        match Kind::try_from(self.row.kind) {
+            Ok(kind) => kind,
             // a posting's kind is one of the table's
-            None => unreachable(),
+            Err(_) => unreachable(),
         }
     }
 
+    /// How many hours the posting covers.
+    pub fn hours(&self) -> u8
+        ensures value { result ≡ self.now.row.last + 1 - self.now.row.first }
+        ensures bound { result ≤ 24 }
+    {
+        let PostingRow { first, last, .. } = self.row;
+        last - first + 1
+    }
+
     /// Whether the posting's kind allows the volume.
+    #[tactic(auto, using(crate::proofs::Volumes::allowed_of))]
     pub fn allows_volume(&self, volume: u32) -> bool
         ensures value { result ≡ volume_allowed self.now.row volume }
     {

@@ -1,26 +1,10 @@
-use Rattle.std.proofs.Common.{◌<◌, ◌≤◌, length, take, ap, ◌∙◌, arith}
-use Rattle.std.proofs.lemmas.List.{take_all}
-use Rattle.postings.specs.declared.row.PostingRow.{PostingRow}
-use Rattle.books.proofs.Places.{some_below, take_place}
+use Rattle.std.proofs.Common.{rules, ◌≡◌, drop, arith}
 use Rattle.sheets.specs.Members.{named}
-use Rattle.sheets.proofs.Named.{named_push}
+use Rattle.sheets.proofs.Named.{named_some}
 use Rattle.sheets.proofs.members.members_named.Goals as goal
-use Rattle.sheets.proofs.members.members_named.Goals.{in-Some, in-None}
 
-pub loop-place-preserved : goal.loop-place-preserved
-loop-place-preserved g c =
-    let rows = g.B.Book.list c.args.book.now in
-    let inside : c.loop-place.place < length (g.B.Book.list c.args.book.now) = omega arith in
-    elim c.match-at.branch [
-      | in-Some w ↦
-          let e = ap named (take_place rows c.loop-place.place w.in-Some.posting.row w.in-Some.ensures.value) in
-          let m = ap (λ (r : PostingRow). r.member) w.row.ensures.value in
-          omega (arith, e, m, named_push (take c.loop-place.place rows) w.in-Some.posting.row, w.members-is, c.loop-place.invariant)
-      | in-None w ↦ absurd (some_below rows c.loop-place.place inside w.in-None.ensures.value)
-    ]
-
-pub returns : goal.returns
-returns g c =
-    let rows = g.B.Book.list c.args.book.now in
-    let all : length (g.B.Book.list c.args.book.now) ≤ c.loop-place.place = omega arith in
-    record { value = c.loop-place.invariant ∙ ap named (take_all c.loop-place.place rows all) }
+pub loop-posting-init : goal.loop-posting-init
+loop-posting-init g c =
+    let left = drop c.into_iter-posting-iterator.result.place (g.B.Book.list c.into_iter-posting-iterator.result.book.now) in
+    let e : named left ≡ named (g.B.Book.list c.args.book.now) = search rules in
+    (omega (arith, e, named_some left), omega arith)

@@ -1,13 +1,7 @@
 -- With no place corrected, no place has a volume.
-use Rattle.std.proofs.Common.{ℕ, eqb, List, take, refl, ap}
-use Rattle.std.specs.List.{zip}
-use Rattle.std.specs.Map.{lookup}
 use Rattle.books.proofs.Amends.{amended_none}
+use Rattle.books.proofs.Marks.{noted_none}
 use Rattle.books.proofs.corrected.Corrected.new.Goals as goal
 
-pub returns : goal.returns
-returns g c = record {
-  lower = refl;
-  list = amended_none _ 0 (g.B.Book.list c.args.lower) (λ k. ap (λ (ps : List ℕ). lookup (eqb k) (zip ps (take c.new-corrections.result.used c.new-corrections.result.volumes))) c.new-corrections.ensures.places);
-  places = c.new-corrections.ensures.places;
-}
+pub returns-clause-list : goal.returns-clause-list
+returns-clause-list g c = amended_none _ 0 (g.B.Book.list c.args.lower) (λ k. noted_none k c.new-corrections.result.entries.items c.new-corrections.ensures.places)

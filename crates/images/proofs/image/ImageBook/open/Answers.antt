@@ -8,10 +8,10 @@ use Rattle.images.proofs.image.ImageBook.open.Goals as goal
 pub invariant_of-result : goal.invariant_of-result
 invariant_of-result c = record { few = omega arith; keeps = rows_lawful _ 0 (λ k h. absurd (omega arith)) }
 
-pub returns-in-Err : goal.returns-in-Err
-returns-in-Err c = record {
+pub returns-in_default : goal.returns-in_default
+returns-in_default c = record {
   cases = record {
-    passed = λ m. absurd (asks_never (to_check c.args.bytes.now) (checking_decided c.args.bytes.now) _ c.in-Err.ensures.cases m);
+    passed = λ m. absurd (asks_never (to_check c.args.bytes.now) (checking_decided c.args.bytes.now) _ c.in_default.ensures.cases m);
     failed = λ f r. rows_none _;
   };
 }

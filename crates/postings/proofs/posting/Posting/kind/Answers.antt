@@ -6,9 +6,9 @@ use Rattle.postings.proofs.posting.Posting.kind.Goals as goal
 
 pub unreachable-requires : goal.unreachable-requires
 unreachable-requires c =
-    let e : false ≡ true = ap is_some c.in-None.ensures.value ∙ (lawful_met c.args.self.now.row c.args.self.now.keeps).0 in
+    let e : false ≡ true = sym (ap is_some c.in-Err.ensures.none) ∙ (lawful_met c.args.self.now.row c.args.self.now.keeps).0 in
     let z : ◌≡◌ {A = ℕ} 0 1 = cc in
     omega arith
 
 pub returns : goal.returns
-returns c = record { value = kind_code _ _ (sym c.in-Some.ensures.value) }
+returns c = record { value = kind_code _ _ c.in-Ok.ensures }
