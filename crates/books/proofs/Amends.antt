@@ -2,15 +2,13 @@
 use Rattle.std.proofs.Common.{◌≡◌, ℕ, zero, suc, ◌+◌, ◌<◌, ◌≤◌, true, false, cond, eqb, ◌⊎◌, List, [], ◌∷◌, ◌++◌, length, Some, None, Ok, Err, Option, Result, sym, refl, ap, ◌∙◌, inl, inr, ⊎_elim, add-zero, add-suc, suc-add, zero-add, arith}
 use Rattle.std.specs.Map.{update}
 use Rattle.std.specs.List.{slice_get}
-use Rattle.std.proofs.lemmas.Bool.{and_parts, and_from, eq-eqb, ne_eqb, cond-true, cond-false, cond_both}
+use Rattle.std.proofs.lemmas.Bool.{eq-eqb, ne_eqb, cond-true, cond-false, cond_both}
 use Rattle.faults.specs.declared.making.MakingFault.TheVariants.{Volume}
 use Rattle.faults.specs.declared.fault.Fault.{Fault}
 use Rattle.faults.specs.declared.fault.Fault.TheVariants.{Making, NoPosting, CorrectionsFull}
 use Rattle.faults.proofs.Asks.{AllDecided, decided_ask, true_or_not, lt_or_not}
 use Rattle.postings.specs.declared.row.PostingRow.{PostingRow}
-use Rattle.postings.specs.Table.{lawful, all_lawful}
 use Rattle.postings.specs.Volumes.{volume_allowed, with_volume}
-use Rattle.postings.proofs.Volumes.{lawful_at}
 use Rattle.books.specs.declared.corrections.Corrections.{Corrections}
 use Rattle.books.specs.Books.{Posted}
 use Rattle.books.specs.Layers.{amend, amended, with_volume_at, among, RoomFor, allowed_at, to_correct, volume_at, corrected_places, layered, Noted, Corrects}
@@ -59,17 +57,6 @@ pub amended_none : (f : ℕ → Option ℕ) (i : ℕ) (rs : List PostingRow) →
 amended_none f i [] h = refl
 amended_none f i (r ∷ rs) h =
     ap (λ (o : Option ℕ). amend r o ∷ amended f (suc i) rs) (h i) ∙ ap (λ (xs : List PostingRow). r ∷ xs) (amended_none f (suc i) rs h)
-
--- lawful rows stay lawful
-lawful_amend : (r : PostingRow) (o : Option ℕ) → lawful r ≡ true → lawful (amend r o) ≡ true
-lawful_amend r None h = h
-lawful_amend r (Some v) h = lawful_at r v h
-
-pub lawful_amended : (f : ℕ → Option ℕ) (i : ℕ) (rs : List PostingRow) → all_lawful rs ≡ true → all_lawful (amended f i rs) ≡ true
-lawful_amended f i [] h = refl
-lawful_amended f i (r ∷ rs) h =
-    let p = and_parts (lawful r) (all_lawful rs) h in
-    and_from (lawful (amend r (f i))) (all_lawful (amended f (suc i) rs)) (lawful_amend r (f i) p.0) (lawful_amended f (suc i) rs p.1)
 
 -- the volume at one place is replaced
 again : (r : PostingRow) (o : Option ℕ) (v : ℕ) → volume_allowed r v ≡ true → amend r (Some v) ≡ with_volume (amend r o) v

@@ -1,5 +1,5 @@
 -- The entries of a list by their places, as a book answers them.
-use Rattle.std.proofs.Common.{◌≡◌, ℕ, zero, suc, ◌+◌, ◌<◌, ◌≤◌, List, [], ◌∷◌, ◌++◌, length, take, drop, Some, None, refl, ap, add-one, arith}
+use Rattle.std.proofs.Common.{◌≡◌, ℕ, zero, suc, ◌+◌, ◌<◌, List, [], ◌∷◌, ◌++◌, length, take, drop, Some, None, refl, ap, add-one, arith}
 use Rattle.std.specs.List.{slice_get}
 
 module _ {X : Type 0} where
@@ -47,9 +47,3 @@ module _ {X : Type 0} where
   -- the first of the entries from a place on is the one at that place, and the others follow it
   pub first_place : (xs ys : List X) (i : ℕ) (x : X) → drop i xs ≡ x ∷ ys → (Some x ≡ slice_get xs i) × (drop (i + 1) xs ≡ ys)
   first_place xs ys i x e = rw add-one (drop_first xs ys i x e)
-
-  -- where no entry is left, the places are all
-  pub no_place : (xs : List X) (i : ℕ) → drop i xs ≡ [] → length xs ≤ i
-  no_place [] i e = omega arith
-  no_place (x ∷ xs) zero e = let z : ◌≡◌ {A = ℕ} 0 1 = cc in absurd (omega arith)
-  no_place (x ∷ xs) (suc i) e = let h : length xs ≤ i = no_place xs i e in omega arith

@@ -1,4 +1,5 @@
 pub mod Rolls
 pub mod Books
 pub mod Layers
+pub mod Amended
 pub mod Days

@@ -9,7 +9,7 @@ ghost use Rattle.books.specs.Books.{row_of, Posted};
 use faults::Fault;
 use postings::Posting;
 
-/// A list of postings, whose length is the count, and a largest count. A question leaves the book as it is.
+/// A list of lawful postings, whose length is the count, and a largest count. A question leaves the book as it is.
 pub trait Book {
     /// The rows of the postings, in the order of their places.
     ghost list: { Self → List PostingRow };
@@ -26,6 +26,9 @@ pub trait Book {
     /// The posting at a place, or none at or past the count.
     fn at(&self, place: usize) -> Option<Posting>
         ensures value { row_of result ≡ slice_get (list self.now) place };
+
+    /// Each posting of a book is lawful.
+    ghost lawful: { (b : Self) → all_lawful (list b) ≡ true };
 }
 
 /// A book that takes postings.
@@ -49,6 +52,8 @@ impl<'b, B: Book> Book for &'b mut B {
     fn at(&self, place: usize) -> Option<Posting> {
         (**self).at(place)
     }
+
+    ghost lawful = { λ b. B.Book.lawful b.now };
 }
 
 impl<'b, B: OpenBook> OpenBook for &'b mut B {

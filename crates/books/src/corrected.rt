@@ -3,7 +3,8 @@
 ghost use Rattle.std.specs.Prelude.{◌≡◌, ◌<◌, [], length};
 ghost use Rattle.std.specs.List.{All};
 ghost use Rattle.books.specs.Books.{Posted};
-ghost use Rattle.books.specs.Layers.{corrected_places, layered, Corrects};
+ghost use Rattle.books.specs.Layers.{corrected_places, volume_at, layered, Corrects};
+ghost use Rattle.books.specs.Amended.{lawful_amended};
 
 use super::book::{Book, OpenBook};
 use super::corrections::Corrections;
@@ -71,6 +72,8 @@ impl<B: Book> Book for Corrected<B> {
             None => Some(posting),
         }
     }
+
+    ghost lawful = { λ c. lawful_amended (volume_at c.corrections) 0 (B.Book.list c.lower) (B.Book.lawful c.lower) };
 }
 
 impl<B: OpenBook> OpenBook for Corrected<B> {

@@ -1,8 +1,7 @@
 //! Going over a book.
 
-ghost use Rattle.std.specs.Prelude.{◌≡◌, true, length, drop};
+ghost use Rattle.std.specs.Prelude.{◌≡◌, length, drop};
 ghost use Rattle.std.specs.Iterator.{YieldsFirstBy, item_count};
-ghost use Rattle.postings.specs.Table.{all_lawful};
 
 use super::book::Book;
 use postings::Posting;
@@ -21,7 +20,6 @@ impl<'b, B: Book> Postings<'b, B> {
     pub fn of(book: &'b B) -> Postings<'b, B>
         ensures value { drop result.place (B.Book.list result.book.now) ≡ B.Book.list book.now }
         ensures count { result.count ≡ length (B.Book.list book.now) }
-        ensures lawful { all_lawful (B.Book.list book.now) ≡ true }
     {
         Postings {
             book,

@@ -58,6 +58,8 @@ impl<'a> Book for RowsBook<'a> {
         // never refused: every row of the roll is lawful
         Posting::make(self.roll.at(place)?).ok()
     }
+
+    ghost lawful = { λ b. b.keeps };
 }
 
 impl<'a> OpenBook for RowsBook<'a> {

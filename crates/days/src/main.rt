@@ -6,6 +6,7 @@ use sheets::Sheet;
 use std::{env, fs, io};
 
 /// Prints one sheet, or the number of its refusal.
+// the program `sheet` does so too, but prints the words of a refusal beside it
 fn show<R: SharingRule>(rt: &HostRuntime, rule: &R, image: &[u8]) -> io::Result<()> {
     match Sheet::of_image(rule, image) {
         Ok(sheet) => print!(rt; "{sheet}"),

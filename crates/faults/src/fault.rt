@@ -147,9 +147,9 @@ impl Fault {
 }
 
 impl From<MakingFault> for Fault {
-    ghost from_gives = { λ fault made. made ≡ Making fault };
+    ghost from_gives = { λ making fault. fault ≡ Making making };
 
-    fn from(fault: MakingFault) -> Fault {
-        Fault::Making(fault)
+    fn from(making: MakingFault) -> Fault {
+        Fault::Making(making)
     }
 }

@@ -85,10 +85,7 @@ pub fn image_of(text: &[u8], image: &mut [u8]) -> Result<usize, Refusal>
     let mut rows = [PostingRow::default(); MOST_POSTINGS];
     let mut book = RowsBook::new(&mut rows);
     let line = take_lines(text, &mut prices, &mut book)?;
-    match write_image(prices.hours.as_slice(), &book, image) {
-        Ok(length) => Ok(length),
-        Err(fault) => Err(Refusal { line, fault }),
-    }
+    write_image(prices.hours.as_slice(), &book, image).map_err(|fault| Refusal { line, fault })
 }
 
 /// Takes the lines of a text and answers the number of the line past the last.
@@ -99,10 +96,8 @@ fn take_lines<B: OpenBook>(
 ) -> Result<usize, Refusal> {
     let mut line: usize = 1;
     for typed in text.split_inclusive(|byte| *byte == b'\n') {
-        if let Err(fault) = take_line(typed, prices, book) {
-            return Err(Refusal { line, fault });
-        }
-        // never at the top: each line has a byte
+        take_line(typed, prices, book).map_err(|fault| Refusal { line, fault })?;
+        // counted, since the number past the last is an answer; never at the top, since each line has a byte
         line = line.saturating_add(1);
     }
     if prices.is_complete() {

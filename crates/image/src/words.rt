@@ -49,13 +49,12 @@ pub(crate) fn price_of(word: &str) -> u32 {
 
 /// The code of a kind by its name or its code.
 fn kind_of(word: Option<&str>) -> u8 {
-    match word.and_then(kind_named) {
-        Some(kind) => u8::from(kind),
-        None => number(word, NO_KIND),
-    }
+    word.and_then(kind_named)
+        .map_or_else(|| number(word, NO_KIND), u8::from)
 }
 
 /// A kind by its name.
+// no `FromStr`: the trait and the type are of other crates
 fn kind_named(name: &str) -> Option<Kind> {
     match name {
         "injection" => Some(Kind::Injection),
@@ -76,8 +75,6 @@ fn number<T: FromStr + Copy>(word: Option<&str>, otherwise: T) -> T
 where
     T::Err: Drop,
 {
-    match word {
-        Some(word) => word.parse::<T>().unwrap_or(otherwise),
-        None => otherwise,
-    }
+    word.and_then(|word| word.parse::<T>().ok())
+        .unwrap_or(otherwise)
 }

@@ -13,6 +13,7 @@ fn byte(bytes: &[u8], at: usize) -> u8
 }
 
 /// The number of two bytes.
+// each number by its own `from_be_bytes`, which no trait has in common; the places bounded, so that no sum wraps
 pub(crate) fn u16_at(bytes: &[u8], at: usize) -> u16
     requires { at < 2 ^ 33 }
     ensures value { result ≡ u16_at bytes.now at }

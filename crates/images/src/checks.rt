@@ -63,8 +63,9 @@ fn check_postings(bytes: &[u8]) -> Result<(), Fault>
     requires { count_in bytes.now ≤ 2048 }
     ensures cases { Answered (ask_postings bytes.now) result }
 {
-    // by place: the bytes past the end read as 0, so there is no slice of rows to go over
+    // by place: what is asked here is the stated count, so the bytes may be shorter than its rows
     for place in 0..stated_count(bytes) {
+        // not `map_err(..)?`: over its closure, which holds `place`, the loop's proof did not close
         if let Err(fault) = Posting::make(row_at(bytes, place)) {
             return Err(Fault::ImagePostingAt(place, fault));
         }

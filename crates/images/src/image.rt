@@ -14,7 +14,7 @@ use postings::Posting;
 #[derive(Drop)]
 pub struct ImageBook<'a> {
     bytes: &'a [u8],
-    // the count that the bytes state, read once
+    // nil where the check fails, and then not the count that the bytes state
     count: usize,
     ghost few: { count ≤ 2048 },
     ghost keeps: { all_lawful (rows_up_to bytes.now count) ≡ true },
@@ -49,4 +49,6 @@ impl<'a> Book for ImageBook<'a> {
         // never refused: every row is lawful
         Posting::make(row_at(self.bytes, place)).ok()
     }
+
+    ghost lawful = { λ b. b.keeps };
 }

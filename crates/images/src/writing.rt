@@ -56,13 +56,14 @@ fn put_day<B: Book>(out: &mut [u8], prices: &[u32; 24], book: &B)
     requires room { 100 + 13 * length (B.Book.list book.now) ≤ length out.old }
     ensures after { out.new ≡ laid out.old 0 (bytes_of prices.now (B.Book.list book.now)) }
 {
-    // `as`: the check proves that nothing is lost, where `try_from` would answer a `Result`
+    // `as` is proved to lose nothing here; `try_from` would answer a `Result`
     put(out, 0, &(prices.len() as u16).to_be_bytes());
     put_prices(out, prices);
     put(out, 98, &(book.count() as u16).to_be_bytes());
     put_postings(out, book);
 }
 
+// the prices and the book apart, here and in every call, as a host has them
 /// Writes the image of a day and answers its length. Bytes past it stay as they are, and at a refusal all do.
 pub fn write_image<B: Book>(prices: &[u32], book: &B, out: &mut [u8]) -> Result<usize, Fault>
     ensures cases { Written prices.now (B.Book.list book.now) out.old result out.new }

@@ -3,7 +3,6 @@ pub mod Counted
 pub mod Shareable
 pub mod Members
 pub mod Charges
-pub mod Made
 pub mod Chunks
 pub mod DayLimits
 pub mod RowTotals

@@ -55,7 +55,7 @@ fn kwh_of(posting: &Posting) -> u64
     kwh_in_hour(posting) * u64::from(posting.hours())
 }
 
-/// Whether there is little enough volume; a book of over 2,048 postings has too many of them.
+/// Whether there is little enough volume.
 pub fn check_volume<B: Book>(book: &B) -> Result<(), Fault>
     ensures cases { Answered (ask_volume (B.Book.list book.now)) result }
 {

@@ -1,8 +1,6 @@
 //! Reckoning a day.
 
-ghost use Rattle.std.specs.Prelude.{◌≡◌, true, OnOk};
 ghost use Rattle.faults.specs.Asks.{Answered};
-ghost use Rattle.postings.specs.Table.{all_lawful};
 ghost use Rattle.reckoning.specs.Reckoning.{ask_rows, Admitted, Reckoned};
 
 use crate::admission::{check_members, check_postings, check_volume};
@@ -26,7 +24,6 @@ fn check_rows(members: usize, rows: usize) -> Result<(), Fault>
 /// Whether a day is within the limits, in their order.
 fn admit<B: Book>(book: &B, prices: &[u32], members: usize, rows: usize) -> Result<(), Fault>
     ensures cases { Admitted prices.now (B.Book.list book.now) members rows result }
-    ensures lawful { OnOk result (all_lawful (B.Book.list book.now) ≡ true) }
 {
     check_count(members)?;
     check_prices(prices)?;

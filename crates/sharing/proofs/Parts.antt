@@ -1,11 +1,10 @@
 -- What is known of the numbers that are shared by, and of a part's size.
-use Rattle.std.proofs.Common.{◌≡◌, ℕ, ◌+◌, ◌<◌, ◌≤◌, List, length, get_or, ℤ, pos, nat_abs, sum, refl, ap, ⊎_elim, arith, w64, SFits}
+use Rattle.std.proofs.Common.{ℕ, ◌+◌, ◌<◌, ◌≤◌, List, length, get_or, ℤ, pos, nat_abs, sum, refl, ap, ⊎_elim, arith, w64, SFits}
 use Rattle.std.proofs.lemmas.Int.{ints}
 use Rattle.std.proofs.lemmas.List.Sums.{get_or-le-sum_by}
 use Rattle.std.proofs.lemmas.Bool.{cases_lt}
 use Rattle.sharing.specs.Law.{SharingLaw}
-use Rattle.faults.specs.declared.fault.Fault.{Fault}
-use Rattle.sharing.specs.Shared.{Shareable, Refuses, limit}
+use Rattle.sharing.specs.Shared.{Shareable, limit}
 use Rattle.sharing.specs.Fitting.{product_size}
 use Rattle.sharing.specs.Rounds.{rounded_size}
 
@@ -17,7 +16,3 @@ part_fits parts law s ws k m h = omega (arith, ints, size)
     size =
         ⊎_elim (λ p. omega (arith, rounded_size _ _ (sum ws) (law.near s ws k p h), product_size s ws (get_or ws k 0) (sum ws) (record { sum_is = refl; shareable = m }) (get_or-le-sum_by (λ x. x) ws k 0 h)))
         (λ z. omega (arith, ap nat_abs (law.nothing s ws k (omega arith)))) (cases_lt 0 (sum ws))
-
--- where all that is asked holds, nothing is refused
-pub not_refused : (s : ℤ) (ws : List ℕ) (before : List ℤ) (f : Fault) (after : List ℤ) → length ws ≡ length before → Shareable s ws → Refuses s ws before f after → ⊥
-not_refused s ws before f after e m r = ⊎_elim (λ a. a.1 e) (λ b. ⊎_elim (λ a. a.1 m) (λ a. a.1) b.1) r.refused

@@ -35,7 +35,7 @@ impl Division<'_> {
         if self.total == 0 {
             return Exact { whole: 0, rest: 0 };
         }
-        // `as`: the check proves that nothing is lost, where `try_from` would answer a `Result`
+        // `as` is proved to lose nothing here; `cast_signed` would take a number that wraps too
         let product = self.amount * weight as i64;
         let total = self.total as i64;
         Exact {

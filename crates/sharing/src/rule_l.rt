@@ -17,9 +17,11 @@ pub struct RuleL;
 
 /// Writes the remainder of each member.
 fn write_remainders(division: &Division, out: &mut [i64])
+    // a weight for each part, as admission asks: a struct over both would only be taken apart again
     requires within { length division.now.weights.now ≡ length out.old }
     ensures places { RemaindersOf division.now.amount division.now.weights.now out.new }
 {
+    // by place: what a `zip` with `out.iter_mut()` writes is not known to the proof
     for (k, part) in out.iter_mut().enumerate() {
         *part = division.member(k).rest;
     }
@@ -75,6 +77,7 @@ fn write_parts(division: &Division, out: &mut [i64])
     requires within { length division.now.weights.now ≡ length out.old }
     ensures places { Topped division.now.amount division.now.weights.now out.old out.new }
 {
+    // by place, as in `write_remainders`
     for (k, part) in out.iter_mut().enumerate() {
         *part = division.member(k).whole + i64::from(*part < 0);
     }

@@ -16,9 +16,9 @@ abbrev pub postings : List ℕ → List PostingRow
 postings image = rows_up_to image (count_in image)
 
 -- the image passes the check, and the sheet is the one that the formulas give for its prices and postings
-pub record IsSheet (parts : ℤ → List ℕ → List ℤ) (mark : ℕ) (image : List ℕ) (s : Sheet) : Type 0 where
+pub record IsSheet (parts : ℤ → List ℕ → List ℤ) (letter : ℕ) (image : List ℕ) (s : Sheet) : Type 0 where
   pub met : Met (to_check image)
-  pub letter_is : s.letter ≡ mark
+  pub letter_is : s.letter ≡ letter
   pub members_are : s.members ≡ named (postings image)
   pub rows_are : take s.members s.rows ≡ sheet parts (prices_in image) (postings image) s.members
   pub bill_is : s.bill ≡ sheet_bill (prices_in image) (postings image) s.members
@@ -30,5 +30,5 @@ NoSheet image f =
 
 -- the sheet of an image under a rule, or the fault for which there is none
 abbrev pub OfImage : (ℤ → List ℕ → List ℤ) → ℕ → List ℕ → Result Sheet Fault → Type 0
-OfImage parts mark image (Ok s) = IsSheet parts mark image s
-OfImage parts mark image (Err f) = NoSheet image f
+OfImage parts letter image (Ok s) = IsSheet parts letter image s
+OfImage parts letter image (Err f) = NoSheet image f

@@ -15,7 +15,7 @@ use std::fmt;
 pub struct Sheet {
     letter: u8,
     members: usize,
-    // fixed memory, since the library has no heap: those of the members are the first
+    // those of the members are the first: with an `ArrayVec` a sheet would not be `Copy`
     rows: [SheetRow; 64],
     bill: i64,
 }

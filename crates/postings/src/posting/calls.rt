@@ -7,6 +7,7 @@ ghost use Rattle.postings.specs.Making.{Made};
 ghost use Rattle.postings.specs.Volumes.{volume_allowed, at_volume};
 
 use super::Posting;
+use crate::day::MOST_MEMBERS;
 use crate::kind::Kind;
 use crate::row::PostingRow;
 use faults::MakingFault;
@@ -31,7 +32,7 @@ impl Posting {
         if !limits.allow_label(row.label) {
             return Err(MakingFault::Label);
         }
-        if row.member >= 64 {
+        if usize::from(row.member) >= MOST_MEMBERS {
             return Err(MakingFault::Member);
         }
         Ok(Posting { row })

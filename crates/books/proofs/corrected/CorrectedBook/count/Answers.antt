@@ -1,7 +1,8 @@
 -- The layer has as many postings as the lower book, and all are lawful.
 use Rattle.std.proofs.Common.{sym, ◌∙◌}
 use Rattle.books.specs.Layers.{volume_at}
-use Rattle.books.proofs.Amends.{length_amended, lawful_amended}
+use Rattle.books.specs.Amended.{lawful_amended}
+use Rattle.books.proofs.Amends.{length_amended}
 use Rattle.books.proofs.corrected.CorrectedBook.count.Goals as goal
 
 pub returns : goal.returns
