@@ -41,7 +41,8 @@ impl<B: Book> Corrected<B> {
         if !posting.allows_volume(volume) {
             return Err(Fault::Making(MakingFault::Volume));
         }
-        self.corrections.note(place, volume)
+        self.corrections.note(place, volume)?;
+        Ok(())
     }
 
     /// Ends the layer and hands the lower book back, as the layer holds it.
@@ -83,6 +84,8 @@ impl<B: OpenBook> OpenBook for Corrected<B> {
         ensures lower { Posted (B.Book.list self.old.lower) (B.Book.largest self.old.lower) posting.row result (B.Book.list self.new.lower) }
         ensures places { corrected_places self.new.corrections ≡ corrected_places self.old.corrections }
     {
-        self.lower.post(posting)
+        // answered anew and not handed on, as in `correct`, so that a must-fail edit turns the answer alone
+        let place = self.lower.post(posting)?;
+        Ok(place)
     }
 }

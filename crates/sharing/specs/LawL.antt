@@ -108,3 +108,13 @@ module _ (s : ℤ) (ws : List ℕ) (k all : ℕ) (e : all ≡ sum ws) where
 pub left_none : (s : ℤ) (ws : List ℕ) → sum ws ≡ 0 → left_over s ws ≡ 0
 unfolding left_over
 left_none s ws e = rw e
+
+-- a remainder is at most W, whatever W is
+pub rest_le : (s : ℤ) (ws : List ℕ) (k : ℕ) → k < length ws → remainder s ws k ≤ sum ws
+unfolding remainder
+rest_le s ws k h = ⊎_elim (λ p. omega (arith, rest_lt s ws k p)) (λ z. omega (arith, none (omega arith))) (cases_lt 0 (sum ws))
+  where
+    none : sum ws ≡ 0 → remainder s ws k ≡ 0
+    none e =
+        let w : slice_index_or ws k 0 ≡ 0 = omega (arith, get_or-le-sum_by (λ x. x) ws k 0 h) in
+        rw (w, e) (ap (λ (z : ℤ). floor_mod z 0) (times_nil s))

@@ -1,6 +1,7 @@
 pub mod Law
 pub mod Shared
 pub mod Inside
+pub mod Small
 pub mod Admission
 pub mod Rules
 pub mod Marks

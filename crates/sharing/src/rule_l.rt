@@ -10,7 +10,7 @@ use crate::rule::SharingRule;
 use faults::Fault;
 
 /// Every part is rounded down, and the members with the largest remainders get one kuruş more each until the
-/// amount is reached, the lower member first among equals. Over n members that takes 2n divisions and at most 2n²
+/// amount is reached, the lower member first among equals. Over n members that takes 2n divisions and at most n²
 /// comparisons.
 #[derive(Clone, Copy)]
 pub struct RuleL;
@@ -54,8 +54,16 @@ fn left_over(division: &Division, remainders: &[i64]) -> usize
 fn first_largest(numbers: &[i64]) -> Option<usize>
     ensures finds { MatchOption result (length numbers.now ≡ 0) (FirstLargest numbers.now) }
 {
-    let largest = numbers.iter().max()?;
-    numbers.iter().position(|number| number == largest)
+    let mut largest = *numbers.first()?;
+    let mut place = 0;
+    // one pass: `max` and then `position` took two, up to twice the comparisons
+    for (k, number) in numbers.iter().enumerate() {
+        if *number > largest {
+            largest = *number;
+            place = k;
+        }
+    }
+    Some(place)
 }
 
 /// Marks with -1 the `spare` members that come first, each the first of the largest remainders that are left.

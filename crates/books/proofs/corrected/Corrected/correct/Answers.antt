@@ -1,9 +1,8 @@
 -- Each refusal leaves all as it was; an accepted correction is the latest at its place.
-use Rattle.std.proofs.Common.{◌≡◌, ℕ, sym, refl, ◌∙◌, inl, inr, arith}
-use Rattle.books.specs.Layers.{volume_at}
-use Rattle.books.proofs.Places.{below_some}
+use Rattle.std.proofs.Common.{◌≡◌, ℕ, Ok, Result, sym, refl, subst, ◌∙◌, inl, inr, arith, rules}
+use Rattle.faults.specs.declared.fault.Fault.{Fault}
+use Rattle.books.specs.Layers.{volume_at, layered, corrected_places, Corrects}
 use Rattle.books.proofs.Amends.{no_posting, posting_there, allowed_there, layered_noted}
-use Rattle.books.proofs.Marks.{below_noted}
 use Rattle.books.proofs.corrected.Corrected.correct.Goals as goal
 
 pub returns-in_default : goal.returns-in_default
@@ -26,12 +25,19 @@ returns-then-not-allows_volume-clause-cases g c =
       places = refl;
     }
 
-pub invariant_of-self : goal.invariant_of-self
-invariant_of-self g c =
-    let l = below_some (g.B.Book.list c.args.self.now.lower) c.args.place c.in-Some.posting.row c.in-Some.ensures.value in
-    record { below = below_noted _ c.args.place c.args.volume c.args.self.now.corrections c.note.new.self c.note.result l c.args.self.now.below c.note.ensures.cases }
+pub returns-in_err-note : goal.returns-in_err-note
+returns-in_err-note g c =
+    let k = c.args.self.now.corrections in
+    let new = c.note.new.self in
+    let rows = g.B.Book.list c.args.self.now.lower in
+    let p = layered_noted k new rows c.args.place c.args.volume c.in-Some.posting.row c.note.result c.in-Some.ensures.value (sym c.if-not-allows_volume.ensures.value) c.note.ensures.cases in
+    let e : c.note.result ≡ c.from_residual.result = search rules in
+    let to : Result (Unit {0}) Fault → Type 0 = λ a. Corrects (layered k rows) (corrected_places k) c.args.place c.args.volume a (layered new rows) (corrected_places new) in
+    record { cases = subst to e p; lower = refl }
 
-pub returns-clause-cases : goal.returns-clause-cases
-returns-clause-cases g c =
-    layered_noted c.args.self.now.corrections c.note.new.self (g.B.Book.list c.args.self.now.lower) c.args.place c.args.volume c.in-Some.posting.row c.note.result
-    c.in-Some.ensures.value (sym c.if-not-allows_volume.ensures.value) c.note.ensures.cases
+pub returns : goal.returns
+returns g c = record {
+  cases = layered_noted c.args.self.now.corrections c.note.new.self (g.B.Book.list c.args.self.now.lower) c.args.place c.args.volume c.in-Some.posting.row (Ok tt)
+      c.in-Some.ensures.value (sym c.if-not-allows_volume.ensures.value) c.in_ok-note.ensures.cases;
+  lower = refl;
+}
