@@ -51,7 +51,7 @@ fn price_at(bytes: &[u8], hour: usize) -> u32
 fn check_prices(bytes: &[u8]) -> Result<(), Fault>
     ensures cases { Answered (ask_prices bytes.now) result }
 {
-    // by hour: over the array of all prices, the refusal of an early one took up to six times as long
+    // by hour: over the array of all prices, the refusal of the first took six times as long
     for hour in 0..24 {
         if price_at(bytes, hour) > HIGHEST_PRICE {
             return Err(Fault::ImagePriceAt(hour));

@@ -1,7 +1,7 @@
 //! The nine kinds of postings.
 
 ghost use Rattle.std.specs.Prelude.{◌≡◌};
-ghost use Rattle.postings.specs.Table.{code};
+ghost use Rattle.postings.specs.Table.{code, kind_of};
 ghost use Rattle.postings.specs.Decoding.{Decoded};
 
 use faults::MakingFault;
@@ -49,6 +49,15 @@ impl TryFrom<u8> for Kind {
             9 => Ok(Kind::Down),
             _ => Err(MakingFault::Kind),
         }
+    }
+}
+
+impl Kind {
+    /// The kind that a code stands for, if it is one of the nine.
+    pub fn of(code: u8) -> Option<Kind>
+        ensures value { result ≡ kind_of code }
+    {
+        Kind::try_from(code).ok()
     }
 }
 

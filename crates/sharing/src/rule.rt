@@ -1,6 +1,6 @@
 //! A sharing rule: how an amount is split over members by their weights.
 
-ghost use Rattle.std.specs.Prelude.{ℕ, List, ℤ};
+ghost use Rattle.std.specs.Prelude.{◌≡◌, ℕ, List, ℤ};
 ghost use Rattle.sharing.specs.Law.{SharingLaw};
 ghost use Rattle.sharing.specs.Shared.{Shared};
 
@@ -16,6 +16,13 @@ pub trait SharingRule {
 
     // the parts, by the amount and the weights alone
     ghost parts: { ℤ → List ℕ → List ℤ };
+
+    /// The letter, as the constant has it.
+    fn mark(&self) -> u8
+        ensures value { result ≡ LETTER }
+    {
+        Self::LETTER
+    }
 
     /// Writes the parts of `amount` by `weights` to `out`, or refuses and leaves `out` as it was.
     fn share(&self, amount: i64, weights: &[u64], out: &mut [i64]) -> Result<(), Fault>
