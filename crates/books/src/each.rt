@@ -36,6 +36,8 @@ impl<'b, B: Book> Iterator for Postings<'b, B> {
 
     ghost remaining = { item_count (λ s. drop s.place (B.Book.list s.book.now)) };
 
+    // as a call of its own it costs a loop over an image's book up to a third more for each posting
+    #[inline]
     fn next(&mut self) -> Option<Posting> {
         if self.place >= self.count {
             return None;
